@@ -7,15 +7,16 @@ ghost use Rattle.mr_base.specs.declared.access.Access.{Access};
 ghost use Rattle.mr_rust_order.specs.declared.index.Mark.{Mark};
 ghost use Rattle.mr_rust_order.specs.Marks.{AreKept, AreMarked, IsListed, IsMarked, IsOnShelf, IsPlaceFor};
 ghost use Rattle.mr_rust_order.specs.Marks.{has_mark, mark_of, shelf_at};
-ghost use Rattle.mr_rust_order.specs.Rows.{IsRowFor, row_at as is_row_at};
+ghost use Rattle.mr_rust_order.specs.Rows.{IsKnownRow, row_at as is_row_at};
 
+use crate::clock::Clock;
 use crate::memos::spread;
 use crate::rows::{Row, row_at};
 use mr_base::Access;
 use mr_event::OutOfMemory;
 use std::collections::BTreeSet;
 
-/// A row of a thread, marked on a shelf at the address where its range begins.
+/// A row, marked on a shelf at the address where its range begins, by the thread that made it.
 #[derive(Clone, Copy, Debug, PartialEq, Eq, PartialOrd, Ord)]
 pub struct Mark {
     pub shelf: u64,
@@ -184,45 +185,65 @@ pub(crate) fn find_rows(
     Ok(())
 }
 
-// Whether there is a row of a range and a thread at a place.
-fn is_row_for(rows: &[Row], x: usize, range: Access, thread: u32) -> bool
-    ensures { IsTrue result → IsRowFor rows.now x range thread }
+// Whether there is a row of a range at a place, whose step a clock knows.
+fn is_known_row(rows: &[Row], x: usize, range: Access, clock: &Clock) -> bool
+    ensures { IsTrue result → IsKnownRow rows.now x range clock.now }
 {
     if x >= rows.len() {
         return false;
     }
     let row = row_at(rows, x);
-    row.thread == thread && row.range == range
+    row.range == range && row.last < clock.at(row.thread)
 }
 
-// The place of a row of a range and a thread among those that are marked on a shelf, if there is one.
+// The place of such a row among those that threads from one to another have marked on a shelf, if there is one.
+fn row_among(
+    marks: &BTreeSet<Mark>,
+    rows: &[Row],
+    shelf: u64,
+    range: Access,
+    from: u32,
+    to: u32,
+    clock: &Clock,
+) -> Option<usize>
+    requires { from ≤ to }
+    ensures { IfSome result (λ x. IsKnownRow rows.now x range clock.now) }
+{
+    let first = Mark {
+        shelf,
+        place: range.addr,
+        thread: from,
+        row: 0,
+    };
+    let last = Mark {
+        shelf,
+        place: range.addr,
+        thread: to,
+        row: usize::MAX,
+    };
+    for mark in marks.range(first..=last) {
+        if is_known_row(rows, mark.row, range, clock) {
+            return Some(mark.row);
+        }
+    }
+    None
+}
+
+// The place of such a row that a thread has marked, or else of any.
 fn row_for(
     marks: &BTreeSet<Mark>,
     rows: &[Row],
     shelf: u64,
     range: Access,
     thread: u32,
+    clock: &Clock,
 ) -> Option<usize>
-    ensures { IfSome result (λ x. IsRowFor rows.now x range thread) }
+    ensures { IfSome result (λ x. IsKnownRow rows.now x range clock.now) }
 {
-    let first = Mark {
-        shelf,
-        place: range.addr,
-        thread,
-        row: 0,
-    };
-    let last = Mark {
-        shelf,
-        place: range.addr,
-        thread,
-        row: usize::MAX,
-    };
-    for mark in marks.range(first..=last) {
-        if is_row_for(rows, mark.row, range, thread) {
-            return Some(mark.row);
-        }
+    match row_among(marks, rows, shelf, range, thread, thread, clock) {
+        Some(x) => Some(x),
+        None => row_among(marks, rows, shelf, range, 0, u32::MAX, clock),
     }
-    None
 }
 
 // Marks a new row.
@@ -248,21 +269,21 @@ fn mark_row(
     Ok(())
 }
 
-// The row that was found last for a slot, if it is of this range and thread.
+// The row that was found last for a slot, if it is of this range and a clock knows its step.
 fn late_row(
     places: &[usize],
     slot: usize,
     rows: &[Row],
     range: Access,
-    thread: u32,
+    clock: &Clock,
 ) -> Option<usize>
-    ensures { IfSome result (λ x. IsRowFor rows.now x range thread) }
+    ensures { IfSome result (λ x. IsKnownRow rows.now x range clock.now) }
 {
     if slot >= places.len() {
         return None;
     }
     let x = places[slot];
-    if is_row_for(rows, x, range, thread) {
+    if is_known_row(rows, x, range, clock) {
         Some(x)
     } else {
         None
@@ -276,23 +297,26 @@ fn keep_place(places: &mut Vec<usize>, slot: usize, x: usize) {
     }
 }
 
-/// The place of the row of a range and a thread; if there is none, the place behind all rows, which is marked for it.
+/// The place of a row of a range whose step a clock knows; if none is found, the place behind all rows, which is marked
+/// for the range and a thread.
 pub(crate) fn place_for(
     index: &mut Index,
     rows: &[Row],
     range: Access,
     thread: u32,
+    clock: &Clock,
 ) -> Result<usize, OutOfMemory>
     requires { AreMarked index.old.shelves.items index.old.marks.keys rows.now }
     ensures marked { OnOk result (AreMarked index.new.shelves.items index.new.marks.keys rows.now) }
-    ensures place { IfOk result (λ x. IsPlaceFor index.new.shelves.items index.new.marks.keys rows.now range thread x) }
+    ensures place { IfOk result
+        (λ x. IsPlaceFor index.new.shelves.items index.new.marks.keys rows.now range clock.now x) }
 {
-    let slot = spread(range.addr, u64::from(thread));
-    if let Some(x) = late_row(index.places.as_slice(), slot, rows, range, thread) {
+    let slot = spread(range, thread);
+    if let Some(x) = late_row(index.places.as_slice(), slot, rows, range, clock) {
         return Ok(x);
     }
     let shelf = use_shelf(&mut index.shelves, range)?;
-    if let Some(x) = row_for(&index.marks, rows, shelf, range, thread) {
+    if let Some(x) = row_for(&index.marks, rows, shelf, range, thread, clock) {
         keep_place(&mut index.places, slot, x);
         return Ok(x);
     }
