@@ -22,8 +22,8 @@ use mr_step::{Machine, StepFault};
 use mr_typing::Checked;
 use std::alloc::{AllocError, Global};
 
-// The fault of a start or a step, at its place.
-fn at_place(place: u32, fault: StepFault) -> RunFault
+/// The fault of a start or a step, at its place.
+pub(crate) fn at_place(place: u32, fault: StepFault) -> RunFault
     ensures { result ≡ placed place fault }
 {
     match fault {
