@@ -1,14 +1,14 @@
 //! What is said of the run of the program in one file under the schedule in another.
-ghost use Rattle.std.specs.Prelude.{◌≡◌, ℕ, ◌+◌, ◌^◌, ◌<◌, ◌≤◌, List, None, Some, Ok, IfOk, OnOk, length};
+ghost use Rattle.std.specs.Prelude.{◌≡◌, ℕ, ◌+◌, ◌^◌, ◌<◌, ◌≤◌, List, None, Some, Ok, IfOk, OnOk, length, true};
 ghost use Rattle.mr_ast.specs.Shaped.{Shaped};
 ghost use Rattle.mr_io.specs.Counts.{Rose};
 ghost use Rattle.mr_io.specs.Files.{Contents};
 ghost use Rattle.mr_grammar.specs.Parsing.{parsed};
 ghost use Rattle.mr_input.specs.Answer.{IsStatus, Tells, TellsOrUnread, told};
 ghost use Rattle.mr_input.specs.Inputs.{IsUnreadFault, schedule_in};
-ghost use Rattle.mr_run.specs.Runs.{HasPlace, RunAnswer};
+ghost use Rattle.mr_run.specs.Runs.{HasPlace, RunAnswer, are_of_first};
 ghost use Rattle.mr_show.specs.Answer.{answer_under, drawn_between, first_rows, next_under, ran_answer};
-ghost use Rattle.mr_show.specs.Answer.{ran_under, told_for};
+ghost use Rattle.mr_show.specs.Answer.{lists_races, ran_under, told_for};
 ghost use Rattle.mr_show.specs.Answering.{IsOfFile, IsOfProgram, IsOfText, IsToldAs};
 
 use crate::filled::filled_file;
@@ -22,7 +22,7 @@ use mr_io::Files;
 use mr_labels::{Allocation, Stand, ToldStep, start_rows};
 use mr_picture::Span;
 use mr_replay::{Between, stands, tell};
-use mr_run::{Clocked, RunFault};
+use mr_run::{Clocked, Nothing, RunFault, is_of_first, run};
 use mr_sched::{Schedule, Version};
 use mr_start::start_asks;
 use mr_step::Machine;
@@ -292,6 +292,11 @@ fn ran_stands(
     ensures status { IfOk result (λ a. IsStatus a.status) }
     ensures read { ¬ IsUnreadFault result }
 {
+    if lists_races(part) {
+        if is_of_first(w.entries.as_slice()) {
+            return ran_alone(alloc, part, text, p, v, w);
+        }
+    }
     let mut stood = Vec::new(alloc);
     let mut kept = Clocked::new(alloc);
     let outcome = stands(alloc, p, w, &mut kept, &mut stood);
@@ -309,6 +314,40 @@ fn ran_stands(
         &[],
         stood.as_slice(),
     )
+}
+
+// Whether a part tells of races alone.
+fn lists_races(part: Part) -> bool
+    ensures { result ≡ lists_races part }
+{
+    match part {
+        Part::Races | Part::TwoOrders => true,
+        Part::Steps { .. } | Part::Order { .. } | Part::Picture { .. } => false,
+    }
+}
+
+// The same of races under a schedule of thread 0 alone. One thread has no race, so that nothing is kept of its steps.
+fn ran_alone(
+    alloc: Global,
+    part: Part,
+    text: &[u8],
+    p: &Checked,
+    v: Version,
+    w: &Schedule,
+) -> Result<Written, Refusal>
+    requires few { length w.now.entries ≤ 2 ^ 22 }
+    requires parsed { parsed text.now ≡ Ok p.now }
+    requires races { lists_races part ≡ true }
+    requires alone { are_of_first w.now.entries ≡ true }
+    ensures answer { Tells (ran_answer part text.now p.now v w.now) result }
+    ensures status { IfOk result (λ a. IsStatus a.status) }
+    ensures read { ¬ IsUnreadFault result }
+{
+    let mut nothing = Nothing;
+    let outcome = run(alloc, p, w, &mut nothing);
+    let kept = Clocked::new(alloc);
+    let rows = Vec::new(alloc);
+    ended(alloc, part, text, p, v, w, outcome, &kept, rows, &[], &[])
 }
 
 // The same of a run that came to this, of which this was told.
