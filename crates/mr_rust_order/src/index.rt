@@ -5,13 +5,9 @@ ghost use Rattle.std.specs.Prelude.{◌≡◌, ℕ, ◌<◌, ◌≤◌, ◌^◌,
 ghost use Rattle.mr_base.specs.Accesses.{conflicts};
 ghost use Rattle.mr_base.specs.declared.access.Access.{Access};
 ghost use Rattle.mr_rust_order.specs.declared.index.Mark.{Mark};
-ghost use Rattle.mr_rust_order.specs.Marks.{AreKept, AreMarked, IsListed, IsMarked, IsOnShelf, IsPlaceFor};
+ghost use Rattle.mr_rust_order.specs.Marks.{AreKept, IsListed, IsMarked, IsOnShelf};
 ghost use Rattle.mr_rust_order.specs.Marks.{has_mark, mark_of, shelf_at};
-ghost use Rattle.mr_rust_order.specs.Rows.{IsKnownRow, row_at as is_row_at};
 
-use crate::clock::Clock;
-use crate::memos::spread;
-use crate::rows::{Row, row_at};
 use mr_base::Access;
 use mr_event::OutOfMemory;
 use std::collections::BTreeSet;
@@ -33,12 +29,13 @@ pub struct Shelf {
 }
 
 /// The shelves, and the marks of the rows. The marks of a shelf have its place for a number. And places of late rows,
-/// each to be looked at before it is believed.
+/// each to be looked at before it is believed; and of each row whether it is the only one of its range.
 #[derive(Drop)]
 pub struct Index {
     pub shelves: Vec<Shelf>,
     pub marks: BTreeSet<Mark>,
     pub places: Vec<usize>,
+    pub alone: Vec<bool>,
 }
 
 // The width of the shelf of the ranges of a length.
@@ -90,8 +87,8 @@ fn find_shelf(shelves: &[Shelf], shelf: Shelf) -> Option<usize>
     None
 }
 
-// The number of the shelf of a range, which is in use from then on.
-fn use_shelf(shelves: &mut Vec<Shelf>, range: Access) -> Result<u64, OutOfMemory>
+/// The number of the shelf of a range, which is in use from then on.
+pub(crate) fn use_shelf(shelves: &mut Vec<Shelf>, range: Access) -> Result<u64, OutOfMemory>
     ensures kept { AreKept shelves.old.items shelves.new.items }
     ensures placed { IfOk result (λ s. IsOnShelf shelves.new.items range s) }
 {
@@ -185,69 +182,8 @@ pub(crate) fn find_rows(
     Ok(())
 }
 
-// Whether there is a row of a range at a place, whose step a clock knows.
-fn is_known_row(rows: &[Row], x: usize, range: Access, clock: &Clock) -> bool
-    ensures { IsTrue result → IsKnownRow rows.now x range clock.now }
-{
-    if x >= rows.len() {
-        return false;
-    }
-    let row = row_at(rows, x);
-    row.range == range && row.last < clock.at(row.thread)
-}
-
-// The place of such a row among those that threads from one to another have marked on a shelf, if there is one.
-fn row_among(
-    marks: &BTreeSet<Mark>,
-    rows: &[Row],
-    shelf: u64,
-    range: Access,
-    from: u32,
-    to: u32,
-    clock: &Clock,
-) -> Option<usize>
-    requires { from ≤ to }
-    ensures { IfSome result (λ x. IsKnownRow rows.now x range clock.now) }
-{
-    let first = Mark {
-        shelf,
-        place: range.addr,
-        thread: from,
-        row: 0,
-    };
-    let last = Mark {
-        shelf,
-        place: range.addr,
-        thread: to,
-        row: usize::MAX,
-    };
-    for mark in marks.range(first..=last) {
-        if is_known_row(rows, mark.row, range, clock) {
-            return Some(mark.row);
-        }
-    }
-    None
-}
-
-// The place of such a row that a thread has marked, or else of any.
-fn row_for(
-    marks: &BTreeSet<Mark>,
-    rows: &[Row],
-    shelf: u64,
-    range: Access,
-    thread: u32,
-    clock: &Clock,
-) -> Option<usize>
-    ensures { IfSome result (λ x. IsKnownRow rows.now x range clock.now) }
-{
-    match row_among(marks, rows, shelf, range, thread, thread, clock) {
-        Some(x) => Some(x),
-        None => row_among(marks, rows, shelf, range, 0, u32::MAX, clock),
-    }
-}
-
-// Marks a new row.
-fn mark_row(
+/// Marks a new row.
+pub(crate) fn mark_row(
     index: &mut Index,
     shelf: u64,
     range: Access,
@@ -267,60 +203,4 @@ fn mark_row(
         row,
     })?;
     Ok(())
-}
-
-// The row that was found last for a slot, if it is of this range and a clock knows its step.
-fn late_row(
-    places: &[usize],
-    slot: usize,
-    rows: &[Row],
-    range: Access,
-    clock: &Clock,
-) -> Option<usize>
-    ensures { IfSome result (λ x. IsKnownRow rows.now x range clock.now) }
-{
-    if slot >= places.len() {
-        return None;
-    }
-    let x = places[slot];
-    if is_known_row(rows, x, range, clock) {
-        Some(x)
-    } else {
-        None
-    }
-}
-
-// Keeps the row that was found last for a slot.
-fn keep_place(places: &mut Vec<usize>, slot: usize, x: usize) {
-    if slot < places.len() {
-        places[slot] = x;
-    }
-}
-
-/// The place of a row of a range whose step a clock knows; if none is found, the place behind all rows, which is marked
-/// for the range and a thread.
-pub(crate) fn place_for(
-    index: &mut Index,
-    rows: &[Row],
-    range: Access,
-    thread: u32,
-    clock: &Clock,
-) -> Result<usize, OutOfMemory>
-    requires { AreMarked index.old.shelves.items index.old.marks.keys rows.now }
-    ensures marked { OnOk result (AreMarked index.new.shelves.items index.new.marks.keys rows.now) }
-    ensures place { IfOk result
-        (λ x. IsPlaceFor index.new.shelves.items index.new.marks.keys rows.now range clock.now x) }
-{
-    let slot = spread(range, thread);
-    if let Some(x) = late_row(index.places.as_slice(), slot, rows, range, clock) {
-        return Ok(x);
-    }
-    let shelf = use_shelf(&mut index.shelves, range)?;
-    if let Some(x) = row_for(&index.marks, rows, shelf, range, thread, clock) {
-        keep_place(&mut index.places, slot, x);
-        return Ok(x);
-    }
-    let row = rows.len();
-    mark_row(index, shelf, range, thread, row)?;
-    Ok(row)
 }

@@ -43,6 +43,7 @@ mod memos;
 mod partners;
 mod rows;
 mod runs;
+mod taking;
 
 pub use analysis::Analysis;
 pub use gaps::first_gap;

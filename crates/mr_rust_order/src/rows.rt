@@ -6,7 +6,8 @@ ghost use Rattle.mr_rust_order.specs.Marks.{AreMarked};
 ghost use Rattle.mr_rust_order.specs.Rows.{AreNoted, IsPut, is_release as has_release, row_at as is_row_at};
 
 use crate::clock::Clock;
-use crate::index::{Index, place_for};
+use crate::index::Index;
+use crate::taking::place_for;
 use mr_base::Access;
 use mr_event::{Footprint, OutOfMemory};
 use std::alloc::Global;
