@@ -3,11 +3,14 @@ use Rattle.std.proofs.Common.{◌≡◌, ℕ, zero, suc, ◌+◌, ◌<◌, ◌�
 use Rattle.std.proofs.Common.{append-nil, append_assoc, get_or, length, take}
 use Rattle.std.proofs.lemmas.List.{flat_map_more, map_push}
 use Rattle.std.proofs.lemmas.Option.{slice_get_read}
-use Rattle.std.specs.Prelude.{OnOk, Result, Ok, Err, Option, Some, flat_map, map, slice_get}
+use Rattle.std.specs.Prelude.{if◌then◌else◌, Bool, false, OnOk, Result, Ok, Err, Option, None, Some, flat_map, map, option_to_list, slice_get}
+use Rattle.std.specs.List.{range_with_len}
 use Rattle.mr_ast.specs.declared.program.Program.{Program}
+use Rattle.mr_base.specs.declared.byte.AllocId.{AllocId}
 use Rattle.mr_frame.specs.Frames.{Look}
 use Rattle.mr_plan.specs.Machine.{Language}
 use Rattle.mr_plan.specs.Runs.{Config, after, machine_step}
+use Rattle.mr_sched.specs.declared.schedule.Ask.{Ask}
 use Rattle.mr_sched.specs.declared.schedule.Entry.{Entry}
 use Rattle.mr_sched.specs.declared.schedule.Schedule.{Schedule}
 use Rattle.mr_step.specs.StartRuns.{program_step}
@@ -15,14 +18,17 @@ use Rattle.mr_step.specs.Answers.{StartAnswer}
 use Rattle.mr_step.specs.Standing.{Standing}
 use Rattle.mr_run.specs.Runs.{IsMade}
 use Rattle.mr_step.specs.ThreadSteps.{Own, thread_step}
+use Rattle.mr_labels.specs.declared.names.Name.{Name}
 use Rattle.mr_labels.specs.declared.rows.Allocation.{Allocation}
 use Rattle.mr_labels.specs.declared.step.Stand.{Stand}
 use Rattle.mr_labels.specs.declared.step.ToldStep.{ToldStep}
-use Rattle.mr_labels.specs.Table.{step_rows}
+use Rattle.mr_labels.specs.Names.{made_names}
+use Rattle.mr_labels.specs.Table.{made_rows, row_at, row_of, step_rows}
 use Rattle.mr_labels.proofs.Growing.{appended_next}
 use Rattle.mr_replay.specs.declared.telling.Between.{Between}
 use Rattle.mr_replay.specs.Stands.{stand_before}
-use Rattle.mr_replay.specs.Told.{if_between, stand_of, told_at, told_first, told_of, told_step, told_steps}
+use Rattle.mr_replay.specs.Told.{asks_at, if_between, is_between, stand_of, told_at, told_first, told_of, told_step}
+use Rattle.mr_replay.specs.Told.{told_steps, unless_none}
 
 -- what holds where nothing failed
 pub where_ok : {A E X : Type 0} (r : Result A E) → X → OnOk r X
@@ -138,6 +144,45 @@ module _ (p : Program) (part : Between) (first m : Standing) (old_rows rows : Li
           (told_first first.look first.config es (index + 1)) (told_step m.look m.config count e) h.told told
           (one_more first m count index es h.way e more is look);
     }
+
+-- ---- a step of which nothing is kept
+
+no_ask : (i : ℕ) → slice_get {A = Ask} [] i ≡ None
+no_ask zero = refl
+no_ask (suc i) = refl
+
+none_row : (name : Option Name) (id : Option AllocId) (pick : Option ℕ) → row_of name id None pick ≡ None
+none_row None id pick = refl
+none_row (Some name) None pick = refl
+none_row (Some name) (Some id) pick = refl
+
+none_at : (names : List Name) (ids : List AllocId) (picks : List ℕ) (i : ℕ) → row_at names ids [] picks i ≡ []
+none_at names ids picks i =
+    ap option_to_list
+    (ap (λ (ask : Option Ask). row_of (slice_get names i) (slice_get ids i) ask (slice_get picks i)) (no_ask i)
+    ∙ none_row (slice_get names i) (slice_get ids i) (slice_get picks i))
+
+flat_none : {X Y : Type 0} (f : X → List Y) → ((x : X) → f x ≡ []) → (xs : List X) → flat_map f xs ≡ []
+flat_none f none [] = refl
+flat_none f none (x ∷ xs) = ap (λ ys. ys ++ flat_map f xs) (none x) ∙ flat_none f none xs
+
+-- without a pick it makes no allocation
+pub nothing_made : (p : Program) (look : Look) (c : Config Own) (number : ℕ) (e : Entry) → e.picks ≡ []
+    → (rows : List Allocation) → rows ≡ rows ++ step_rows p (told_step look c number e)
+nothing_made p look c number e none rows =
+    let told = told_step look c number e in
+    let names = made_names p told in
+    sym (append-nil rows)
+    ∙ ap (λ (xs : List Allocation). rows ++ xs)
+    (sym (ap (λ (picks : List ℕ). made_rows names told.made (unless_none picks (asks_at look c e.thread)) e.picks) none
+    ∙ flat_none (row_at names told.made [] e.picks) (none_at names told.made e.picks) (range_with_len 0 (length names))))
+
+-- and where its number is none of these, nothing of it is kept
+pub nothing_told : (part : Between) (look : Look) (c : Config Own) (number : ℕ) (e : Entry)
+    → is_between part number ≡ false → (steps : List ToldStep) → steps ≡ steps ++ if_between part (told_step look c number e)
+nothing_told part look c number e outside steps =
+    sym (append-nil steps)
+    ∙ ap (λ (b : Bool). steps ++ (if b then told_step look c number e ∷ [] else [])) (sym outside)
 
 -- ---- where threads stood
 
