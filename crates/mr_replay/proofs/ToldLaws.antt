@@ -147,7 +147,7 @@ module _ (p : Program) (part : Between) (first m : Standing) (old_rows rows : Li
 
 -- ---- a step of which nothing is kept
 
-no_ask : (i : ℕ) → slice_get {A = Ask} [] i ≡ None
+no_ask : (i : ℕ) → slice_get {X = Ask} [] i ≡ None
 no_ask zero = refl
 no_ask (suc i) = refl
 
