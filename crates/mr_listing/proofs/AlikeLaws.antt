@@ -124,8 +124,7 @@ or_true false = refl
 -- one that passes a test is among the first ones
 pub any_taken : {X : Type 0} (f : X → Bool) (xs : List X) (n k : ℕ) (x : X) → slice_get xs k ≡ Some x → k < n → f x ≡ true
     → list_any f (take n xs) ≡ true
-any_taken f [] n zero x at lt e = absurd (cc)
-any_taken f [] n (suc k) x at lt e = absurd (cc)
+any_taken f [] n k x at lt e = absurd (cc)
 any_taken f (y ∷ ys) zero k x at lt e = absurd (omega (arith, lt))
 any_taken f (y ∷ ys) (suc n) zero x at lt e =
     let same : y ≡ x = cc in ap (λ (b : Bool). b || list_any f (take n ys)) (ap f same ∙ e)

@@ -10,7 +10,6 @@ use Rattle.mr_base.specs.declared.byte.AllocId.{AllocId}
 use Rattle.mr_frame.specs.Frames.{Look}
 use Rattle.mr_plan.specs.Machine.{Language}
 use Rattle.mr_plan.specs.Runs.{Config, after, machine_step}
-use Rattle.mr_sched.specs.declared.schedule.Ask.{Ask}
 use Rattle.mr_sched.specs.declared.schedule.Entry.{Entry}
 use Rattle.mr_sched.specs.declared.schedule.Schedule.{Schedule}
 use Rattle.mr_step.specs.StartRuns.{program_step}
@@ -147,10 +146,6 @@ module _ (p : Program) (part : Between) (first m : Standing) (old_rows rows : Li
 
 -- ---- a step of which nothing is kept
 
-no_ask : (i : ℕ) → slice_get {X = Ask} [] i ≡ None
-no_ask zero = refl
-no_ask (suc i) = refl
-
 none_row : (name : Option Name) (id : Option AllocId) (pick : Option ℕ) → row_of name id None pick ≡ None
 none_row None id pick = refl
 none_row (Some name) None pick = refl
@@ -158,9 +153,7 @@ none_row (Some name) (Some id) pick = refl
 
 none_at : (names : List Name) (ids : List AllocId) (picks : List ℕ) (i : ℕ) → row_at names ids [] picks i ≡ []
 none_at names ids picks i =
-    ap option_to_list
-    (ap (λ (ask : Option Ask). row_of (slice_get names i) (slice_get ids i) ask (slice_get picks i)) (no_ask i)
-    ∙ none_row (slice_get names i) (slice_get ids i) (slice_get picks i))
+    ap option_to_list (none_row (slice_get names i) (slice_get ids i) (slice_get picks i))
 
 flat_none : {X Y : Type 0} (f : X → List Y) → ((x : X) → f x ≡ []) → (xs : List X) → flat_map f xs ≡ []
 flat_none f none [] = refl
