@@ -5,7 +5,7 @@ their definitions (rust_order.py and plain.py). Nothing here is shared with the 
   places that are drawn, and of the trace alone.
 - 10,000 lists of steps that are drawn, with many atomic accesses, locks, wakes, starts and joins.
 - What docs/BESIDE.md says of the examples: their races by each order, and that ThreadSanitizer reports those by Rust's.
-- What the form takes of the shapes of long.py, beside `races`, in instructions.
+- What a step takes of the form for the shapes of long.py, beside one of `mirace run`, in instructions.
 """
 import os
 import random
@@ -28,8 +28,8 @@ INDENT = b" " * 8
 MOST = 8
 # How many lists are drawn.
 LISTS = 10000
-# How many entries the runs have that are counted, and how many times what `races` takes the form may take.
-ENTRIES, TIMES = 1 << 12, 1.5
+# How many entries the runs have that are counted, and how many times what `run` takes of a step the form may take.
+ENTRIES, TIMES = (1 << 11, 1 << 12), 1.5
 # The page with a row of each example and its twin: its races, those by Rust's order, and what ThreadSanitizer reports.
 BESIDE = f"{TOP}/docs/BESIDE.md"
 ROW = re.compile(r"^\| `([a-z-]+)` \| ([^|]*) \| ([^|]*) \| ([^|]*) \|.* of \d+ \|$", re.M)
@@ -308,13 +308,17 @@ def instructions(words, at):
 
 
 def both_orders_counted(at):
-    """The instructions of `rust P S` are at most half more than those of `races P S`, which tells the machine's list,
-    for each shape of long.py."""
+    """A step of `rust P S` takes at most half more instructions than one of `mirace run P S`, for each shape of long.py:
+    the difference of two runs. Of a shape that ends at a race at once both are the same run."""
     if not shutil.which("valgrind"):
         print("outputs: there is no valgrind, so that no instructions of both orders are counted")
         return
+    forms = [PROGRAM, "run"], [companion.COMPANION, "rust"]
     for name, text in long.SHAPES.items():
         write(at, "P", text.encode())
-        write(at, "S", long.drawn(PROGRAM, at, ENTRIES))
-        one, both = (instructions([companion.COMPANION, word, "P", "S"], at) for word in ("races", "rust"))
-        judge(f"both orders: {name}", both <= TIMES * one, f"{both:,} instructions, beside {one:,} of `races`")
+        counts = []
+        for entries in ENTRIES:
+            write(at, "S", long.drawn(PROGRAM, at, entries))
+            counts.append([instructions([*form, "P", "S"], at) for form in forms])
+        one, both = ((longer - shorter) // (ENTRIES[1] - ENTRIES[0]) for shorter, longer in zip(*counts))
+        judge(f"both orders: {name}", both <= TIMES * one, f"{both:,} instructions a step, beside {one:,} of `run`")

@@ -14,7 +14,8 @@ use Rattle.mr_run.specs.Runs.{IsRun}
 use Rattle.mr_auto.specs.Drawing.{drawn_schedule}
 use Rattle.mr_hunt.specs.declared.ends.End.{End}
 use Rattle.mr_hunt.specs.declared.ends.End.TheVariants as shown
-use Rattle.mr_hunt.specs.Ends.{ends_of, race_at, run_told}
+use Rattle.mr_replay.specs.Stands.{stands_of}
+use Rattle.mr_hunt.specs.Ends.{ends_of, race_at}
 
 module _ (p : Program) (number most : ℕ) (w : Schedule) (m : Standing) (same : w ≡ drawn_schedule p number most)
     (run : IsRun p w m) where
@@ -32,6 +33,6 @@ module _ (p : Program) (number most : ℕ) (w : Schedule) (m : Standing) (same :
 
   pub ends_are : (v : Verdict) (steps : List Footprint) (races : List Pair) → v ≡ m.config.verdict
       → steps ≡ steps_of p w → races ≡ predicted steps
-      → shown.Verdict v ∷ map (race_at (run_told p w)) races ≡ ends_of p most number
+      → shown.Verdict v ∷ map (race_at (stands_of p w)) races ≡ ends_of p most number
   ends_are v steps races e kept are =
-      (λ i. shown.Verdict (verdict_is v e i) ∷ map (race_at (run_told p (same i))) (races_are steps races kept are i))
+      (λ i. shown.Verdict (verdict_is v e i) ∷ map (race_at (stands_of p (same i))) (races_are steps races kept are i))

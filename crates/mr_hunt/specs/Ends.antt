@@ -1,5 +1,5 @@
 -- What a run shows: its verdict, and the places of its races.
-use Rattle.std.specs.Prelude.{ℕ, ◌^◌, ◌==◌, ◌&&◌, Bool, false, List, ◌∷◌, map, flat_map, slice_get}
+use Rattle.std.specs.Prelude.{ℕ, ◌==◌, ◌&&◌, Bool, false, List, ◌∷◌, map, Option, slice_get}
 use Rattle.mr_ast.specs.declared.program.Program.{Program}
 use Rattle.mr_base.specs.Reasons.{code_of}
 use Rattle.mr_base.specs.declared.reason.Verdict.{Verdict}
@@ -9,9 +9,8 @@ use Rattle.mr_event.specs.declared.footprint.Pair.{Pair}
 use Rattle.mr_sched.specs.declared.schedule.Schedule.{Schedule}
 use Rattle.mr_start.specs.Runs.{run_of, steps_of}
 use Rattle.mr_auto.specs.Drawing.{drawn_schedule}
-use Rattle.mr_labels.specs.declared.step.ToldStep.{ToldStep}
-use Rattle.mr_replay.specs.declared.telling.Between.{Between}
-use Rattle.mr_replay.specs.Told.{if_between, told_steps}
+use Rattle.mr_labels.specs.declared.step.Stand.{Stand}
+use Rattle.mr_replay.specs.Stands.{stands_of}
 use Rattle.mr_listing.specs.Races.{before_of, same_stand}
 use Rattle.mr_hunt.specs.declared.ends.End.{End}
 use Rattle.mr_hunt.specs.declared.ends.End.TheVariants as shown
@@ -36,20 +35,13 @@ same_end (shown.Race a b) (shown.Race c d) = same_stand a c && same_stand b d
 
 -- ---- what a run shows
 
--- what its steps tell, of which there are no more than so many
-abbrev pub whole : Between
-whole = record { from = 0; to = 2 ^ 22 }
-
-abbrev pub run_told : Program → Schedule → List ToldStep
-run_told p w = flat_map (if_between whole) (told_steps p w)
-
 -- a race, by where the threads of its two steps stood
-abbrev pub race_at : List ToldStep → Pair → End
-race_at steps pair = shown.Race (before_of (slice_get steps pair.first)) (before_of (slice_get steps pair.second))
+abbrev pub race_at : List (Option Stand) → Pair → End
+race_at stands pair = shown.Race (before_of (slice_get stands pair.first)) (before_of (slice_get stands pair.second))
 
 -- WHAT A RUN SHOWS: its verdict, and each of its races by its places
 abbrev pub run_ends : Program → Schedule → List End
-run_ends p w = shown.Verdict (run_of p w).verdict ∷ map (race_at (run_told p w)) (predicted (steps_of p w))
+run_ends p w = shown.Verdict (run_of p w).verdict ∷ map (race_at (stands_of p w)) (predicted (steps_of p w))
 
 -- what the run of a number shows, whose schedule is drawn with at most so many entries
 abbrev pub ends_of : Program → ℕ → ℕ → List End

@@ -11,7 +11,7 @@ use Rattle.mr_sched.specs.declared.schedule.Schedule.{Schedule}
 use Rattle.mr_start.specs.Runs.{run_of, steps_of}
 use Rattle.mr_auto.specs.Drawing.{drawn_schedule}
 use Rattle.mr_places.specs.Laid.{Laid}
-use Rattle.mr_labels.specs.declared.step.ToldStep.{ToldStep}
+use Rattle.mr_labels.specs.declared.step.Stand.{Stand}
 use Rattle.mr_report.specs.Report.{line, verdict_text}
 use Rattle.mr_listing.specs.Races.{races_text}
 use Rattle.mr_listing.specs.Seen.{Seen}
@@ -20,16 +20,18 @@ use Rattle.mr_hunt.specs.Aims.{Aim, RustRace}
 use Rattle.mr_hunt.specs.declared.ends.End.{End}
 use Rattle.mr_hunt.specs.declared.ends.End.TheVariants as shown
 use Rattle.mr_hunt.specs.declared.counting.Row.{Row}
-use Rattle.mr_hunt.specs.Ends.{run_told}
+use Rattle.mr_replay.specs.Stands.{stands_of}
 
--- what texts of places are made of, for a program with its text and its places there: these steps, and these races
-abbrev pub seen_with : List ℕ → Program → Laid → List ToldStep → List Pair → Seen
-seen_with text p laid steps races = record {
+-- what texts of places are made of, for a program with its text and its places there: where the threads of the steps
+-- stood, and these races
+abbrev pub seen_with : List ℕ → Program → Laid → List (Option Stand) → List Pair → Seen
+seen_with text p laid stands races = record {
   text = text;
   program = p;
   laid = laid;
   rows = [];
-  steps = steps;
+  steps = [];
+  stands = stands;
   count = 0;
   feet = [];
   lines = [];
@@ -76,24 +78,24 @@ abbrev pub asks_rust : Aim → Bool
 asks_rust RustRace = true
 asks_rust _ = false
 
--- races by their places, of steps that tell this
-abbrev pub by_places : List ℕ → Program → Laid → List ToldStep → List Pair → List ℕ
-by_places text p laid steps races = races_text (seen_with text p laid steps races)
+-- races by their places, of steps before which the threads stood so
+abbrev pub by_places : List ℕ → Program → Laid → List (Option Stand) → List Pair → List ℕ
+by_places text p laid stands races = races_text (seen_with text p laid stands races)
 
 -- the races by Rust's order of some footprints, where those are looked for
-abbrev pub rust_part : List ℕ → Program → Laid → Aim → List ToldStep → List Footprint → List ℕ
-rust_part text p laid aim steps run =
-    if asks_rust aim then line (codes "by Rust's order:") ++ by_places text p laid steps (rust_races run) else []
+abbrev pub rust_part : List ℕ → Program → Laid → Aim → List (Option Stand) → List Footprint → List ℕ
+rust_part text p laid aim stands run =
+    if asks_rust aim then line (codes "by Rust's order:") ++ by_places text p laid stands (rust_races run) else []
 
 -- races by their places, and those by Rust's order behind them
-abbrev pub both_races : List ℕ → Program → Laid → Aim → List ToldStep → List Pair → List Footprint → List ℕ
-both_races text p laid aim steps races run =
-    by_places text p laid steps races ++ rust_part text p laid aim steps run
+abbrev pub both_races : List ℕ → Program → Laid → Aim → List (Option Stand) → List Pair → List Footprint → List ℕ
+both_races text p laid aim stands races run =
+    by_places text p laid stands races ++ rust_part text p laid aim stands run
 
 -- the races of a run by their places; by Rust's order too, where those were looked for
 abbrev pub run_races : List ℕ → Program → Laid → Aim → Schedule → List ℕ
 run_races text p laid aim w =
-    both_races text p laid aim (run_told p w) (predicted (steps_of p w)) (steps_of p w)
+    both_races text p laid aim (stands_of p w) (predicted (steps_of p w)) (steps_of p w)
 
 -- the command that shows the run of a number of the program in a file of this name
 abbrev pub command_line : List ℕ → ℕ → ℕ → List ℕ

@@ -4,22 +4,20 @@ ghost use Rattle.mr_start.specs.Runs.{Legal, run_of};
 ghost use Rattle.mr_auto.specs.Drawing.{drawn_schedule};
 ghost use Rattle.mr_listing.specs.Races.{before_of};
 ghost use Rattle.mr_rust_order.specs.Tests.{rust_races};
-ghost use Rattle.mr_hunt.specs.Ends.{ends_of, race_at, run_told};
+ghost use Rattle.mr_replay.specs.Stands.{stands_of};
+ghost use Rattle.mr_hunt.specs.Ends.{ends_of, race_at};
 
 use crate::ends::End;
 use mr_auto::draw;
 use mr_base::Verdict;
 use mr_event::{Footprint, Pair};
-use mr_labels::{Stand, ToldStep};
-use mr_replay::{Between, tell};
+use mr_labels::Stand;
+use mr_replay::stands;
 use mr_run::{Clocked, Nothing, RunFault};
 use mr_rust_order::races;
 use mr_sched::Schedule;
 use mr_typing::Checked;
 use std::alloc::{AllocError, Global};
-
-// As many entries as a schedule has at most.
-const ALL: usize = 1 << 22;
 
 /// What the run of a number shows, whose schedule is drawn with at most so many entries.
 pub(crate) fn ends_of(
@@ -54,7 +52,7 @@ pub(crate) fn verdict_of(
     Ok(drawn.machine.verdict())
 }
 
-// Appends the races of a run by their places. Where there is none, no step is told.
+// Appends the races of a run by their places. Where there is none, the run isn't made again.
 fn push_races(
     alloc: Global,
     p: &Checked,
@@ -64,64 +62,70 @@ fn push_races(
 ) -> Result<(), AllocError>
     requires few { length w.now.entries ≤ 2 ^ 22 }
     requires legal { Legal p.now w.now }
-    ensures { OnOk result (ends.new.items ≡ ends.old.items ++ map (race_at (run_told p.now w.now)) races.now) }
+    ensures { OnOk result (ends.new.items ≡ ends.old.items ++ map (race_at (stands_of p.now w.now)) races.now) }
 {
     if races.is_empty() {
         return Ok(());
     }
-    let steps = told(alloc, p, w)?;
-    push_each(ends, steps.as_slice(), races)
+    let stands = stood(alloc, p, w)?;
+    push_each(ends, stands.as_slice(), races)
 }
 
-// Appends races by their places, of a run whose steps tell this.
-fn push_each(ends: &mut Vec<End>, steps: &[ToldStep], races: &[Pair]) -> Result<(), AllocError>
-    ensures { OnOk result (ends.new.items ≡ ends.old.items ++ map (race_at steps.now) races.now) }
+// Appends races by their places, of a run whose threads stood so before its steps.
+fn push_each(
+    ends: &mut Vec<End>,
+    stands: &[Option<Stand>],
+    races: &[Pair],
+) -> Result<(), AllocError>
+    ensures { OnOk result (ends.new.items ≡ ends.old.items ++ map (race_at stands.now) races.now) }
 {
     for pair in races {
-        ends.push(race_at(steps, *pair))?;
+        ends.push(race_at(stands, *pair))?;
     }
     Ok(())
 }
 
 // A race by its places.
-fn race_at(steps: &[ToldStep], pair: Pair) -> End
-    ensures { result ≡ race_at steps.now pair }
+fn race_at(stands: &[Option<Stand>], pair: Pair) -> End
+    ensures { result ≡ race_at stands.now pair }
 {
     End::Race {
-        first: before_of(steps, pair.first),
-        second: before_of(steps, pair.second),
+        first: before_of(stands, pair.first),
+        second: before_of(stands, pair.second),
     }
 }
 
-// Where the thread of a step stood before it.
-fn before_step(told: Option<&ToldStep>) -> Option<Stand>
-    ensures { result ≡ before_of (option_copied told.entry) }
+// Where the thread of a step stood before it, where there is such a step.
+fn before_step(stand: Option<&Option<Stand>>) -> Option<Stand>
+    ensures { result ≡ before_of (option_copied stand.entry) }
 {
-    match told {
-        Some(told) => told.before,
+    match stand {
+        Some(stand) => *stand,
         None => None,
     }
 }
 
 // The same of the step of this number.
-fn before_of(steps: &[ToldStep], number: usize) -> Option<Stand>
-    ensures { result ≡ before_of (slice_get steps.now number) }
+fn before_of(stands: &[Option<Stand>], number: usize) -> Option<Stand>
+    ensures { result ≡ before_of (slice_get stands.now number) }
 {
-    before_step(steps.get(number))
+    before_step(stands.get(number))
 }
 
-/// What the steps of the run under a legal schedule tell.
-pub(crate) fn told(alloc: Global, p: &Checked, w: &Schedule) -> Result<Vec<ToldStep>, AllocError>
+/// Where the threads of the steps stood, of the run under a legal schedule.
+pub(crate) fn stood(
+    alloc: Global,
+    p: &Checked,
+    w: &Schedule,
+) -> Result<Vec<Option<Stand>>, AllocError>
     requires few { length w.now.entries ≤ 2 ^ 22 }
     requires legal { Legal p.now w.now }
-    ensures { IfOk result (λ steps. steps.items ≡ run_told p.now w.now) }
+    ensures { IfOk result (λ found. found.items ≡ stands_of p.now w.now) }
 {
     let mut nothing = Nothing;
-    let mut rows = Vec::new(alloc);
-    let mut steps = Vec::new(alloc);
-    let whole = Between { from: 0, to: ALL };
-    match tell(alloc, p, w, whole, &mut nothing, &mut rows, &mut steps) {
-        Ok(_) => Ok(steps),
+    let mut found = Vec::new(alloc);
+    match stands(alloc, p, w, &mut nothing, &mut found) {
+        Ok(_) => Ok(found),
         Err(RunFault::Broken { .. }) => unreachable!(),
         Err(RunFault::Memory) => Err(AllocError),
     }

@@ -12,12 +12,12 @@ ghost use Rattle.mr_hunt.specs.Texts.{times_text, told_text};
 use crate::aims::Aim;
 use crate::counting::Row;
 use crate::ends::End;
-use crate::seeing::{by_rust, told};
+use crate::seeing::{by_rust, stood};
 use itoa::Buffer;
 use mr_auto::draw;
 use mr_base::{Reason, Verdict};
 use mr_event::{Footprint, Pair};
-use mr_labels::{Allocations, Stand, ToldStep, push_number};
+use mr_labels::{Allocations, Stand, push_number};
 use mr_listing::{Shown, races, stand_text};
 use mr_places::Places;
 use mr_run::Clocked;
@@ -226,6 +226,7 @@ pub fn table_text(
         places,
         rows: &none,
         steps: &[],
+        stands: &[],
         count: 0,
         feet: &[],
         lines: &[],
@@ -238,16 +239,16 @@ pub fn table_text(
 
 // ---- the run of a number
 
-// Races by their places, of a run whose steps tell this.
+// Races by their places, of a run whose threads stood so before its steps.
 fn races_of(
     alloc: Global,
     text: &[u8],
     p: &Checked,
     places: &Places<'_>,
-    steps: &[ToldStep],
+    stands: &[Option<Stand>],
     pairs: &[Pair],
 ) -> Result<Vec<u8>, AllocError>
-    ensures { IfOk result (λ out. out.items ≡ by_places text.now p.now places.now steps.now pairs.now) }
+    ensures { IfOk result (λ out. out.items ≡ by_places text.now p.now places.now stands.now pairs.now) }
 {
     let none = Allocations::new(alloc, Vec::new(alloc))?;
     let shown = Shown {
@@ -255,7 +256,8 @@ fn races_of(
         program: p.program(),
         places,
         rows: &none,
-        steps,
+        steps: &[],
+        stands,
         count: 0,
         feet: &[],
         lines: &[],
@@ -277,21 +279,21 @@ fn asks_rust(aim: Aim<'_>) -> bool
     }
 }
 
-// Appends the races by Rust's order of some footprints, of a run whose steps tell this.
+// Appends the races by Rust's order of some footprints, of a run whose threads stood so before its steps.
 fn push_rust_races(
     alloc: Global,
     out: &mut Vec<u8>,
     text: &[u8],
     p: &Checked,
     places: &Places<'_>,
-    steps: &[ToldStep],
+    stands: &[Option<Stand>],
     run: &[Footprint],
 ) -> Result<(), AllocError>
     ensures { OnOk result (out.new.items ≡ out.old.items ++ (line (codes "by Rust's order:")
-        ++ by_places text.now p.now places.now steps.now (rust_races run.now))) }
+        ++ by_places text.now p.now places.now stands.now (rust_races run.now))) }
 {
     let found = by_rust(alloc, run)?;
-    let lines = races_of(alloc, text, p, places, steps, found.as_slice())?;
+    let lines = races_of(alloc, text, p, places, stands, found.as_slice())?;
     out.extend_from_slice(b"by Rust's order:")?;
     out.push(b'\n')?;
     out.extend_from_slice(lines.as_slice())?;
@@ -306,14 +308,14 @@ fn push_rust_part(
     p: &Checked,
     places: &Places<'_>,
     aim: Aim<'_>,
-    steps: &[ToldStep],
+    stands: &[Option<Stand>],
     run: &[Footprint],
 ) -> Result<(), AllocError>
     ensures { OnOk result (out.new.items
-        ≡ out.old.items ++ rust_part text.now p.now places.now (aim_of aim.entry) steps.now run.now) }
+        ≡ out.old.items ++ rust_part text.now p.now places.now (aim_of aim.entry) stands.now run.now) }
 {
     if asks_rust(aim) {
-        push_rust_races(alloc, out, text, p, places, steps, run)
+        push_rust_races(alloc, out, text, p, places, stands, run)
     } else {
         Ok(())
     }
@@ -326,15 +328,15 @@ fn both_races(
     p: &Checked,
     places: &Places<'_>,
     aim: Aim<'_>,
-    steps: &[ToldStep],
+    stands: &[Option<Stand>],
     pairs: &[Pair],
     run: &[Footprint],
 ) -> Result<Vec<u8>, AllocError>
     ensures { IfOk result (λ out. out.items
-        ≡ both_races text.now p.now places.now (aim_of aim.entry) steps.now pairs.now run.now) }
+        ≡ both_races text.now p.now places.now (aim_of aim.entry) stands.now pairs.now run.now) }
 {
-    let mut out = races_of(alloc, text, p, places, steps, pairs)?;
-    push_rust_part(alloc, &mut out, text, p, places, aim, steps, run)?;
+    let mut out = races_of(alloc, text, p, places, stands, pairs)?;
+    push_rust_part(alloc, &mut out, text, p, places, aim, stands, run)?;
     Ok(out)
 }
 
@@ -408,14 +410,14 @@ pub fn found_text(
 {
     let mut kept = Clocked::new(alloc);
     let drawn = draw(alloc, p, number, most, &mut kept)?;
-    let steps = told(alloc, p, &drawn.schedule)?;
+    let stands = stood(alloc, p, &drawn.schedule)?;
     let races = both_races(
         alloc,
         text,
         p,
         places,
         aim,
-        steps.as_slice(),
+        stands.as_slice(),
         kept.races(),
         kept.steps(),
     )?;

@@ -117,6 +117,20 @@ counted_from f n (x ∷ xs) = by_test (f x) (counted_from f (n + 1) xs)
     by_test true later = ap suc later
     by_test false later = later
 
+or_true : (b : Bool) → (b || true) ≡ true
+or_true true = refl
+or_true false = refl
+
+-- one that passes a test is among the first ones
+pub any_taken : {X : Type 0} (f : X → Bool) (xs : List X) (n k : ℕ) (x : X) → slice_get xs k ≡ Some x → k < n → f x ≡ true
+    → list_any f (take n xs) ≡ true
+any_taken f [] n k x at lt e = absurd (cc)
+any_taken f (y ∷ ys) zero k x at lt e = absurd (omega (arith, lt))
+any_taken f (y ∷ ys) (suc n) zero x at lt e =
+    let same : y ≡ x = cc in ap (λ (b : Bool). b || list_any f (take n ys)) (ap f same ∙ e)
+any_taken f (y ∷ ys) (suc n) (suc k) x at lt e =
+    ap (λ (b : Bool). f y || b) (any_taken f ys n k x at (omega (arith, lt)) e) ∙ or_true (f y)
+
 -- whether one of the first races passes a test: the first that does has a lower number
 begins_from : (f : Pair → Bool) (n k : ℕ) (xs : List Pair)
     → list_any f (take k xs)
@@ -162,14 +176,14 @@ begins_from f n (suc k) (x ∷ xs) = by_test (f x) (begins_from f (n + 1) k xs)
 
 module _ (s : Seen) where
   abbrev at_step : ℕ → Option Stand
-  at_step number = before_of (slice_get s.steps number)
+  at_step number = before_of (slice_get s.stands number)
 
   pub places_total : IsTotalOrder (places_cmp s)
   places_total =
       then_total (on_total (λ (p : Pair). at_step p.first) stand_total) (on_total (λ (p : Pair). at_step p.second) stand_total)
 
   -- races that tie are of the same places
-  eq_places : (a b : Pair) → is_eq (places_cmp s a b) ≡ same_places s a b
+  pub eq_places : (a b : Pair) → is_eq (places_cmp s a b) ≡ same_places s a b
   eq_places a b =
       eq_then (stand_cmp (at_step a.first) (at_step b.first)) (stand_cmp (at_step a.second) (at_step b.second))
       ∙ ap₂ (λ (x y : Bool). x && y) (eq_stands (at_step a.first) (at_step b.first))
@@ -204,6 +218,12 @@ module _ (s : Seen) where
     found_alike : (n : Numbered) → (not (nat_lt (place_index s pair n) 1) && nat_le (place_index s pair n) 1) ≡ is_alike s pair n
     found_alike n = found (places_cmp s n.pair pair) ∙ eq_places n.pair pair ∙ places_turned s n.pair pair
 
+    -- one that an earlier race is like begins no group
+    pub none_begun : (number : ℕ) → list_any (same_places s pair) (take number s.races) ≡ true → (groups : List Group)
+        → groups ≡ groups ++ first_group s number (Some pair)
+    none_begun number early groups =
+        sym (append-nil groups) ∙ ap (λ (b : Bool). groups ++ (if b then [] else group_of s pair ∷ [])) (sym early)
+
     -- two searches leave those of the same places
     pub of_one_place : (xs : List Numbered)
         → filter (λ n. nat_le (place_index s pair n) 1) (filter (λ n. not (nat_lt (place_index s pair n) 1)) xs)
@@ -228,9 +248,7 @@ module _ (s : Seen) where
       -- one that an earlier race is like begins no group
       pub none_added : begins_before number (slice_get alike 0) ≡ true → (groups : List Group)
           → groups ≡ groups ++ first_group s number (Some pair)
-      none_added early groups =
-          sym (append-nil groups)
-          ∙ ap (λ (b : Bool). groups ++ (if b then [] else group_of s pair ∷ [])) (sym (known_is ∙ early))
+      none_added early groups = none_begun number (known_is ∙ early) groups
 
       -- and another one does
       pub one_added : begins_before number (slice_get alike 0) ≡ false → (groups next : List Group) (count : ℕ)

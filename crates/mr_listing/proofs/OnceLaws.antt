@@ -62,7 +62,7 @@ any_agrees p q h (x ∷ xs) = ap₂ (λ (a b : Bool). a || b) (h x) (any_agrees 
 
 module _ (s : Seen) where
   abbrev at_step : ℕ → Option Stand
-  at_step number = before_of (slice_get s.steps number)
+  at_step number = before_of (slice_get s.stands number)
 
   pub places_turned : (a b : Pair) → same_places s a b ≡ same_places s b a
   places_turned a b =

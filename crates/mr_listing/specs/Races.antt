@@ -5,15 +5,14 @@ use Rattle.std.specs.List.{filter, list_any, range_with_len}
 use Rattle.mr_event.specs.declared.footprint.Pair.{Pair}
 use Rattle.mr_report.specs.Report.{count_line}
 use Rattle.mr_labels.specs.declared.step.Stand.{Stand}
-use Rattle.mr_labels.specs.declared.step.ToldStep.{ToldStep}
 use Rattle.mr_listing.specs.declared.pairs.Group.{Group}
 use Rattle.mr_listing.specs.Seen.{Seen}
 use Rattle.mr_listing.specs.Spots.{stand_text}
 
--- where the thread of a step stood before it
-abbrev pub before_of : Option ToldStep → Option Stand
+-- where the thread of a step stood before it, where there is such a step
+abbrev pub before_of : Option (Option Stand) → Option Stand
 before_of None = None
-before_of (Some told) = told.before
+before_of (Some stand) = stand
 
 -- whether a thread stands nowhere
 abbrev pub is_nowhere : Option Stand → Bool
@@ -33,8 +32,8 @@ same_stand (Some a) b = is_at a b
 -- WHETHER TWO RACES ARE OF THE SAME TWO PLACES: the first steps of both stand at one place, and so do the second ones
 abbrev pub same_places : Seen → Pair → Pair → Bool
 same_places s a b =
-    same_stand (before_of (slice_get s.steps a.first)) (before_of (slice_get s.steps b.first))
-    && same_stand (before_of (slice_get s.steps a.second)) (before_of (slice_get s.steps b.second))
+    same_stand (before_of (slice_get s.stands a.first)) (before_of (slice_get s.stands b.first))
+    && same_stand (before_of (slice_get s.stands a.second)) (before_of (slice_get s.stands b.second))
 
 -- ---- groups
 
@@ -88,10 +87,10 @@ times_text g =
 -- `PLACE  /  PLACE: COUNT times, first STEP STEP`
 abbrev pub group_line : Seen → Group → List ℕ
 group_line s g =
-    stand_text s (before_of (slice_get s.steps g.first.first)) ++ codes "  /  "
-    ++ stand_text s (before_of (slice_get s.steps g.first.second)) ++ codes ": " ++ times_text g
+    stand_text s (before_of (slice_get s.stands g.first.first)) ++ codes "  /  "
+    ++ stand_text s (before_of (slice_get s.stands g.first.second)) ++ codes ": " ++ times_text g
 
--- THE RACES BY PAIRS OF PLACES, as they are written where all steps are told: a line for each pair of places, those with
+-- THE RACES BY PAIRS OF PLACES, as they are written where it is told where all threads stood: a line for each pair of places, those with
 -- most races first; and how many races there are
 abbrev pub races_text : Seen → List ℕ
 races_text s = flat_map (group_line s) (ranked s) ++ count_line s.races

@@ -24,8 +24,8 @@ stand_cmp a b = option_cmp spot_cmp a b
 abbrev pub places_cmp : Seen → Pair → Pair → Ordering
 places_cmp s a b =
     ordering_then
-    (stand_cmp (before_of (slice_get s.steps a.first)) (before_of (slice_get s.steps b.first)))
-    (stand_cmp (before_of (slice_get s.steps a.second)) (before_of (slice_get s.steps b.second)))
+    (stand_cmp (before_of (slice_get s.stands a.first)) (before_of (slice_get s.stands b.first)))
+    (stand_cmp (before_of (slice_get s.stands a.second)) (before_of (slice_get s.stands b.second)))
 
 -- the same as a number: 0 is before them, 1 at them, 2 behind them
 abbrev pub place_index : Seen → Pair → Numbered → ℕ

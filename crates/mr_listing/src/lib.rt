@@ -9,8 +9,8 @@
 //! - [`push_name`], [`push_reached`], [`push_bytes`], [`function_word`], [`access_word`], [`acquire_word`], [`join_word`],
 //!   [`release_word`]: the parts of a line, for other texts. [`push_note`], [`push_end`], [`push_woken`], [`push_partners`] with
 //!   [`partners_of`], [`push_times`], [`push_group`]: lines of a step and of a group of races; [`rank_by_count`]: the
-//!   order of groups; [`ranked`]: the groups in it; [`count_at`]: how many races are of the places of one, by
-//!   [`by_places`].
+//!   order of groups; [`by_places`]: the races by their places; from these [`ranked`]: the groups in that order, and
+//!   [`count_at`]: how many races are of the places of one.
 //!
 //! `specs/Words.antt`, `specs/Steps.antt` and `specs/Races.antt` say what is written. Proved: exactly that, and want of
 //! memory is the only error. [`races_are_grouped`] is the law that the order of the pairs of places is a permutation of

@@ -1,13 +1,14 @@
 //! The races of a run by pairs of places.
-ghost use Rattle.std.specs.Prelude.{◌≡◌, ℕ, ◌≤◌, ◌++◌, All, IfOk, OnOk, Some, codes, decimal, flat_map, slice_get};
+ghost use Rattle.std.specs.Prelude.{◌≡◌, ℕ, ◌≤◌, ◌++◌, All, IfOk, IsTrue, OnOk, Some, codes, decimal, flat_map, slice_get, take};
+ghost use Rattle.std.specs.List.{list_any};
 ghost use Rattle.mr_listing.specs.Races.{before_of, by_count, first_group, group_line, groups, often_text, races_text};
-ghost use Rattle.mr_listing.specs.Races.{ranked, times_text};
+ghost use Rattle.mr_listing.specs.Races.{ranked, same_places, times_text};
 ghost use Rattle.mr_listing.specs.Seen.{seen};
 ghost use Rattle.mr_listing.specs.Sorted.{AreByPlaces};
 
 use crate::OutOfMemory;
 use crate::shown::Shown;
-use crate::sorted::{Numbered, alike_races, before_of, begins_before, by_places};
+use crate::sorted::{Numbered, alike_races, are_alike, before_of, begins_before, by_places};
 use crate::spots::push_stand;
 use mr_event::Pair;
 use mr_labels::{push_count, push_number};
@@ -72,6 +73,20 @@ fn race_at(races: &[Pair], number: usize) -> Option<Pair>
     races.get(number).copied()
 }
 
+// Whether the race before that of this number is of the same places as one.
+fn follows_alike(shown: &Shown<'_>, number: usize, pair: Pair) -> bool
+    ensures { IsTrue result
+        → IsTrue (list_any (same_places (seen shown.now) pair) (take number (seen shown.now).races)) }
+{
+    if number == 0 {
+        return false;
+    }
+    match race_at(shown.races, number - 1) {
+        Some(before) => are_alike(shown, pair, before),
+        None => false,
+    }
+}
+
 // Adds the races at the places of the race of this number, if none before it has the same.
 fn add_group(
     groups: &mut Vec<Group>,
@@ -84,6 +99,9 @@ fn add_group(
     ensures { OnOk result (groups.new.items
         ≡ groups.old.items ++ first_group (seen shown.now) number (Some pair)) }
 {
+    if follows_alike(shown, number, pair) {
+        return Ok(());
+    }
     let alike = alike_races(shown, sorted, pair);
     if begins_before(alike, number) {
         return Ok(());
@@ -128,14 +146,6 @@ fn groups_in(
     Ok(found)
 }
 
-// The same, from the races.
-fn groups_of(alloc: Global, shown: &Shown<'_>) -> Result<Vec<Group>, OutOfMemory>
-    ensures { IfOk result (λ found. found.items ≡ groups (seen shown.now)) }
-{
-    let sorted = by_places(alloc, shown)?;
-    groups_in(alloc, shown, sorted.as_slice())
-}
-
 /// Puts those with most races first, and leaves those with as many in the order in which they stand. An `Err` is for want of
 /// memory.
 pub fn rank_by_count(groups: &mut Vec<Group>) -> Result<(), OutOfMemory>
@@ -146,11 +156,17 @@ pub fn rank_by_count(groups: &mut Vec<Group>) -> Result<(), OutOfMemory>
     Ok(())
 }
 
-/// The races by pairs of places, those with most races first. An `Err` is for want of memory.
-pub fn ranked(alloc: Global, shown: &Shown<'_>) -> Result<Vec<Group>, OutOfMemory>
+/// The races by pairs of places, those with most races first, from the races by their places. An `Err` is for want of
+/// memory.
+pub fn ranked(
+    alloc: Global,
+    shown: &Shown<'_>,
+    sorted: &[Numbered],
+) -> Result<Vec<Group>, OutOfMemory>
+    requires { AreByPlaces (seen shown.now) sorted.now }
     ensures { IfOk result (λ found. found.items ≡ ranked (seen shown.now)) }
 {
-    let mut groups = groups_of(alloc, shown)?;
+    let mut groups = groups_in(alloc, shown, sorted)?;
     rank_by_count(&mut groups)?;
     Ok(groups)
 }
@@ -174,7 +190,8 @@ fn push_each_group(
 pub fn races(alloc: Global, shown: &Shown<'_>) -> Result<Vec<u8>, OutOfMemory>
     ensures { IfOk result (λ text. text.items ≡ races_text (seen shown.now)) }
 {
-    let groups = ranked(alloc, shown)?;
+    let sorted = by_places(alloc, shown)?;
+    let groups = ranked(alloc, shown, sorted.as_slice())?;
     let mut out = Vec::new(alloc);
     push_each_group(&mut out, shown, groups.as_slice())?;
     out.extend_from_slice(b"races ")?;

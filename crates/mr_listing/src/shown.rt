@@ -2,7 +2,7 @@
 use mr_ast::Program;
 use mr_base::Verdict;
 use mr_event::{Footprint, Pair};
-use mr_labels::{Allocations, Rest, ToldStep};
+use mr_labels::{Allocations, Rest, Stand, ToldStep};
 use mr_places::Places;
 use mr_report::Line;
 
@@ -18,6 +18,8 @@ pub struct Shown<'a> {
     pub rows: &'a Allocations,
     /// What its steps tell, or those of a part.
     pub steps: &'a [ToldStep],
+    /// Where the thread of each step stood before it, for a text of places.
+    pub stands: &'a [Option<Stand>],
     /// How many steps it has.
     pub count: usize,
     /// The footprints of those that completed.

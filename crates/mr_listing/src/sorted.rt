@@ -11,7 +11,7 @@ ghost use Rattle.mr_listing.specs.Sorted.{spot_cmp, stand_cmp, with_numbers};
 use crate::OutOfMemory;
 use crate::shown::Shown;
 use mr_event::Pair;
-use mr_labels::{Stand, ToldStep};
+use mr_labels::Stand;
 use std::alloc::Global;
 use std::cmp::Ordering;
 
@@ -22,21 +22,21 @@ pub struct Numbered {
     pub number: usize,
 }
 
-// Where the thread of a step stood before it.
-fn before_step(told: Option<&ToldStep>) -> Option<Stand>
-    ensures { result ≡ before_of (option_copied told.entry) }
+// Where the thread of a step stood before it, where there is such a step.
+fn before_step(stand: Option<&Option<Stand>>) -> Option<Stand>
+    ensures { result ≡ before_of (option_copied stand.entry) }
 {
-    match told {
-        Some(told) => told.before,
+    match stand {
+        Some(stand) => *stand,
         None => None,
     }
 }
 
 /// The same of the step of this number.
 pub fn before_of(shown: &Shown<'_>, number: usize) -> Option<Stand>
-    ensures { result ≡ before_of (slice_get (seen shown.now).steps number) }
+    ensures { result ≡ before_of (slice_get (seen shown.now).stands number) }
 {
-    before_step(shown.steps.get(number))
+    before_step(shown.stands.get(number))
 }
 
 // How one statement lies to another.
@@ -68,6 +68,13 @@ fn compare_places(shown: &Shown<'_>, a: Pair, b: Pair) -> Ordering
     let first = compare_stands(before_of(shown, a.first), before_of(shown, b.first));
     let second = compare_stands(before_of(shown, a.second), before_of(shown, b.second));
     first.then(second)
+}
+
+/// Whether two races are of the same two places.
+pub(crate) fn are_alike(shown: &Shown<'_>, a: Pair, b: Pair) -> bool
+    ensures { result ≡ same_places (seen shown.now) a b }
+{
+    compare_places(shown, a, b).is_eq()
 }
 
 // Whether those of one race lie before those of another.

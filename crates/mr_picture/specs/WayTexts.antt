@@ -29,7 +29,7 @@ step_place s k = step_word k ++ codes ", " ++ thread_word (thread_at s.feet k)
 
 -- its statement, at the end of a line
 abbrev pub step_stand : Seen → ℕ → List ℕ
-step_stand s k = codes "  " ++ stand_text s (before_of (slice_get s.steps k)) ++ codes "\n"
+step_stand s k = codes "  " ++ stand_text s (before_of (slice_get s.stands k)) ++ codes "\n"
 
 -- the line of a step on the way, behind the one before it
 abbrev pub way_line : Seen → ℕ → ℕ → List ℕ

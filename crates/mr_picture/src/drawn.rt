@@ -21,6 +21,7 @@ pub(crate) fn tail_of(alloc: Global, shown: &Shown<'_>) -> Result<Vec<u8>, OutOf
         places: shown.places,
         rows: shown.rows,
         steps: &[],
+        stands: shown.stands,
         count: shown.count,
         feet: shown.feet,
         lines: shown.lines,

@@ -1,2 +1,3 @@
 pub mod Spoken
+pub mod Stands
 pub mod Told

@@ -1,5 +1,5 @@
 //! The run of a program under a schedule, and what one step of it tells.
-ghost use Rattle.std.specs.Prelude.{◌≡◌, ◌+◌, ◌++◌, ◌^◌, ◌<◌, ◌≤◌, [], List, IfErr, IfOk, OnOk, false, flat_map, length};
+ghost use Rattle.std.specs.Prelude.{◌≡◌, ◌+◌, ◌++◌, ◌^◌, ◌<◌, ◌≤◌, [], List, IfErr, IfOk, IsTrue, OnOk, false, flat_map, length};
 ghost use Rattle.std.specs.Prelude.{option_copied};
 ghost use Rattle.mr_event.specs.Footprint.{Footprint as FootprintOf};
 ghost use Rattle.mr_plan.specs.Runs.{feet};
@@ -22,8 +22,8 @@ use mr_step::{Machine, StepFault};
 use mr_typing::Checked;
 use std::alloc::{AllocError, Global};
 
-// The fault of a start or a step, at its place.
-fn at_place(place: u32, fault: StepFault) -> RunFault
+/// The fault of a start or a step, at its place.
+pub(crate) fn at_place(place: u32, fault: StepFault) -> RunFault
     ensures { result ≡ placed place fault }
 {
     match fault {
@@ -221,6 +221,15 @@ fn made_step<R: Record>(
     }
 }
 
+// Whether nothing is kept of what a step tells: its number is none of these, and its entry has no pick, so that it makes
+// no allocation.
+fn is_untold(entry: &Entry, number: usize, part: Between) -> bool
+    ensures picks { IsTrue result → entry.now.picks ≡ [] }
+    ensures part { IsTrue result → is_between part number ≡ false }
+{
+    entry.picks.is_empty() && !is_between(part, number)
+}
+
 // The step of an entry, with what it tells.
 fn tell_step<R: Record>(
     alloc: Global,
@@ -244,6 +253,9 @@ fn tell_step<R: Record>(
     ensures told { OnOk result (steps.new.items
         ≡ steps.old.items ++ if_between part (told_step machine.old.look machine.old.config number entry.now)) }
 {
+    if is_untold(entry, number, part) {
+        return step(machine, entry, kept);
+    }
     match told_before(alloc, machine, entry) {
         Ok(told) => made_step(
             alloc, p, machine, entry, number, part, kept, rows, steps, told,

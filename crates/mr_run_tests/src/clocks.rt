@@ -4,7 +4,7 @@ use mr_clocks::Analysis;
 use mr_event::{Event, Footprint, OutOfMemory, Step};
 use std::alloc::Global;
 
-fn access(store: bool, atomic: bool, addr: u64) -> Access {
+pub fn access(store: bool, atomic: bool, addr: u64) -> Access {
     Access {
         store,
         atomic,
@@ -37,7 +37,7 @@ fn step(
     accessing(alloc, thread, &[first, second])
 }
 
-fn single(alloc: Global, thread: u32, only: Access) -> Result<Footprint, OutOfMemory> {
+pub fn single(alloc: Global, thread: u32, only: Access) -> Result<Footprint, OutOfMemory> {
     accessing(alloc, thread, &[only])
 }
 

@@ -1,8 +1,9 @@
 //! The races of runs by Rust's own order. The runs are texts as those of `orders`.
 
+use crate::clocks::{access, single};
 use crate::orders::run_of;
 use mr_event::OutOfMemory;
-use mr_rust_order::races;
+use mr_rust_order::{Analysis, races};
 use std::alloc::Global;
 use std::test::Fail;
 
@@ -91,5 +92,27 @@ fn first_wrong(alloc: Global) -> Result<Option<usize>, OutOfMemory> {
 #[test]
 fn races_by_rusts_order(rt: HostRuntime) -> Result<(), Fail> {
     assert_eq!(rt; first_wrong(rt.alloc())?, None);
+    Ok(())
+}
+
+// A flag that is read orders what stands before it; one that is stored to again doesn't.
+#[test]
+fn a_flag_that_is_read_orders(rt: HostRuntime) -> Result<(), OutOfMemory> {
+    let alloc = rt.alloc();
+    let mut run = Vec::new(alloc);
+    run.push(single(alloc, 1, access(true, false, 64))?)?;
+    run.push(single(alloc, 1, access(true, true, 80))?)?;
+    run.push(single(alloc, 2, access(true, true, 80))?)?;
+    run.push(single(alloc, 3, access(false, true, 80))?)?;
+    run.push(single(alloc, 3, access(false, false, 64))?)?;
+    let mut analysis = Analysis::new(alloc)?;
+    assert!(rt; analysis.add(&run, 0)?.is_none());
+    assert!(rt; analysis.add(&run, 1)?.is_none());
+    assert!(rt; !analysis.orders(&run, 1, 2)?);
+    assert!(rt; analysis.add(&run, 2)?.is_none());
+    assert!(rt; analysis.add(&run, 3)?.is_none());
+    assert!(rt; analysis.orders(&run, 2, 4)? && analysis.orders(&run, 3, 4)?);
+    assert!(rt; !analysis.orders(&run, 0, 4)? && !analysis.orders(&run, 1, 4)?);
+    assert!(rt; analysis.add(&run, 4)? == Some(0));
     Ok(())
 }

@@ -14,6 +14,7 @@ use Rattle.mr_rust_order.specs.Marks.{IsListed}
 use Rattle.mr_rust_order.specs.Order.{IsReadBy, Makes, has_byte, is_atomic_load, is_atomic_store, is_plain_store, is_store}
 use Rattle.mr_rust_order.specs.Rows.{AreRows, IsRow, IsTop, Passes, row_at}
 use Rattle.mr_rust_order.proofs.AccessLaws.{atomic_is_store, byte_from, byte_to, counted_is_store, loaded_byte, not_loaded, plain_is_store, some_last, some_more, some_wider, store_conflicts, store_is_counted}
+use Rattle.mr_rust_order.proofs.OrderLaws.{reach_up_to}
 use Rattle.mr_rust_order.proofs.TopLaws.{joined_more, joined_none, joined_same, top_least}
 
 -- ---- in the run
@@ -30,13 +31,13 @@ loaded_source run j rows byte x r load l =
           let h = r.held (row_at rows x).last m.0 row.within m.1 in
           let plain : is_plain_store (row_at rows h.row).range byte ≡ true = ap (λ (a : Access). is_plain_store a byte) h.found.of_range ∙ m.2 in
           let less = l.atomic h.row h.found.within plain in
-          let last = h.last in
+          let last = reach_up_to run (row_at rows x).last (row_at rows h.row).last h.reached in
           omega (arith, less, last);
       last = λ k low high m.
           let h = r.held k m.0 high m.1 in
           let stores : is_store (row_at rows h.row).range byte ≡ true = ap (λ (a : Access). is_store a byte) h.found.of_range ∙ m.2 in
           let less = l.latest h.row h.found.within stores in
-          let last = h.last in
+          let last = reach_up_to run k (row_at rows h.row).last h.reached in
           omega (arith, less, last, low);
     }
   where
@@ -50,7 +51,7 @@ source_loaded run i j rows byte r s =
     let h = r.held i s.store.0 s.before s.store.1 in
     let x = h.row in
     let store : is_atomic_store (row_at rows x).range byte ≡ true = ap (λ (a : Access). is_atomic_store a byte) h.found.of_range ∙ s.store.2 in
-    let low = h.last in
+    let low = reach_up_to run i (row_at rows x).last h.reached in
     let high = not_later x h.found.within (atomic_is_store (row_at rows x).range byte store) in
     let at : (row_at rows x).last ≡ i = omega (arith, low, high) in (
       x,

@@ -91,5 +91,15 @@ same_lists run m n (p ∷ pairs) (q ∷ others) h k =
       ]
     ]
 
+-- a run without a race has the empty list
+pub none_listed : (run : List Footprint) → ((i j : ℕ) → IsRace run i j → ⊥) → AreRaces run []
+none_listed run none =
+    record {
+      within = λ k d lt. absurd (omega (arith, lt));
+      listed = λ k d lt. absurd (omega (arith, lt));
+      rising = λ i k d lt high. absurd (omega (arith, high));
+      complete = λ i j lt r. absurd (none i j r);
+    }
+
 pub one_list : (run : List Footprint) (pairs others : List Pair) → AreRaces run pairs → AreRaces run others → pairs ≡ others
 one_list run pairs others h k = same_lists run 0 (length run) pairs others (from_start run (length run) pairs h) (from_start run (length run) others k)

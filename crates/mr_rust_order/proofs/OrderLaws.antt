@@ -32,6 +32,16 @@ reach_behind : (run : List Footprint) (i m k : ℕ) → HappensBefore run i m �
 reach_behind run i m k p (inl same) = inr (subst (λ (x : ℕ). HappensBefore run i x) same p)
 reach_behind run i m k p (inr q) = inr (chain p q)
 
+-- what reaches a step that reaches another reaches that one
+pub reach_on : (run : List Footprint) (i k s : ℕ) → Reaches run i k → Reaches run k s → Reaches run i s
+reach_on run i k s (inl same) r = subst (λ (m : ℕ). Reaches run m s) (sym same) r
+reach_on run i k s (inr h) r = reach_behind run i k s h r
+
+-- what reaches a step is not later
+pub reach_up_to : (run : List Footprint) (i k : ℕ) → Reaches run i k → i ≤ k
+reach_up_to run i k (inl same) = omega (arith, same)
+reach_up_to run i k (inr h) = let lt = HappensBefore-before h in omega (arith, lt)
+
 -- the last edge of a chain
 pub last_edge : (run : List Footprint) {i j : ℕ} → HappensBefore run i j → (k : ℕ) × Reaches run i k × Edge run k j
 last_edge run (edge {i = m} e) = (m, inl refl, e)

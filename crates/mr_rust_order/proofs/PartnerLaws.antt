@@ -1,5 +1,5 @@
 -- The partners by the rows are the races of the run.
-use Rattle.std.proofs.Common.{◌≡◌, ℕ, ◌+◌, ◌<◌, ◌≤◌, max, List, length, take, get_or, slice_index, Option, Some, None, true, not, sym, ap, ◌∙◌, subst, arith}
+use Rattle.std.proofs.Common.{◌≡◌, ◌≢◌, ℕ, ◌+◌, ◌<◌, ◌≤◌, max, List, length, take, get_or, slice_index, Option, Some, None, true, not, sym, ap, ◌∙◌, subst, arith}
 use native.Mathlib.Decide.{dec_lt}
 use Rattle.std.specs.Prelude.{MatchOption, ◌&&◌, ◌==◌, nat_le}
 use Rattle.std.proofs.lemmas.Bool.{and_from, and_parts, eqb-false, leb-true, le-leb, ne_eqb, not-true, not_from_false}
@@ -13,7 +13,9 @@ use Rattle.mr_rust_order.specs.Order.{HappensBefore, HasNoRace, IsGreatestRace, 
 use Rattle.mr_rust_order.specs.Partners.{HasNoPartner, IsGreatestPartner, IsPartner, IsPartnerBy, is_partner}
 use Rattle.mr_rust_order.specs.Rows.{AreRows, IsTop, Passes, row_at}
 use Rattle.mr_rust_order.proofs.AccessLaws.{race_conflict, race_found, race_there, some_last, some_more, some_wider}
-use Rattle.mr_rust_order.proofs.OrderLaws.{before_from, reach_in_thread}
+use Rattle.mr_rust_order.specs.Order.Edge.{in_thread}
+use Rattle.mr_rust_order.specs.Order.HappensBefore.{edge}
+use Rattle.mr_rust_order.proofs.OrderLaws.{before_from, reach_up_to}
 use Rattle.mr_rust_order.proofs.TopLaws.{top_max, top_none}
 
 -- a partner's step has a race
@@ -45,14 +47,13 @@ race_partner run i j rows clock rs c r =
     let h = rs.held i a r.before f.1 in
     let x = h.row in
     let row = rs.each x h.found.within in
-    let of : (row_at rows x).thread ≡ thread_at run i = h.found.of_thread in
-    let low : i ≤ (row_at rows x).last = h.last in
+    let unordered : HappensBefore run (row_at rows x).last j → ⊥ = λ q. r.unordered (before_from run i (row_at rows x).last j h.reached q) in
+    let apart : (row_at rows x).thread ≢ thread_at run j = λ e. unordered (edge (in_thread row.within (row.thread ∙ e))) in
     let unknown : slice_index clock (row_at rows x).thread ≤ (row_at rows x).last =
     elim (dec_lt (row_at rows x).last (slice_index clock (row_at rows x).thread)) [
       | yes lt ↦
           let same = ap (slice_index clock) row.thread in
-          let before : HappensBefore run (row_at rows x).last j = c.only (row_at rows x).last (omega (arith, lt, same)) in
-          absurd (r.unordered (before_from run i (row_at rows x).last j (reach_in_thread run i (row_at rows x).last low (sym of ∙ sym row.thread)) before))
+          absurd (unordered (c.only (row_at rows x).last (omega (arith, lt, same))))
       | no over ↦ omega (arith, over)
     ] in (
       x,
@@ -64,12 +65,12 @@ race_partner run i j rows clock rs c r =
           passed =
               and_from (not ((row_at rows x).thread == thread_at run j) && races (row_at rows x).range b) (nat_le (slice_index clock (row_at rows x).thread) (row_at rows x).last)
               (and_from (not ((row_at rows x).thread == thread_at run j)) (races (row_at rows x).range b)
-              (not_from_false ((row_at rows x).thread == thread_at run j) (ne_eqb (row_at rows x).thread (thread_at run j) (λ e. r.apart (sym of ∙ e))))
+              (not_from_false ((row_at rows x).thread == thread_at run j) (ne_eqb (row_at rows x).thread (thread_at run j) apart))
               (ap (λ (q : Access). races q b) h.found.of_range ∙ f.2.2))
               (le-leb (slice_index clock (row_at rows x).thread) (row_at rows x).last unknown);
         },
       ),
-      low,
+      reach_up_to run i (row_at rows x).last h.reached,
     )
 
 greatest_race : (run : List Footprint) (i j : ℕ) (rows : List Row) (clock : List ℕ) → AreRows run j rows → IsClockBefore run clock j → IsGreatestPartner rows (step_at run j) clock i → IsGreatestRace run i j

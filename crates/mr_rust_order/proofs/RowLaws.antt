@@ -1,5 +1,5 @@
 -- Rows that are put in, one access after another, and the rows of one more step.
-use Rattle.std.proofs.Common.{◌≡◌, ◌≢◌, ℕ, zero, suc, ◌+◌, ◌<◌, ◌≤◌, List, [], ◌∷◌, ◌++◌, length, get_or, set, refl, sym, ap, ◌∙◌, subst, inl, inr, ◌⊎◌, arith}
+use Rattle.std.proofs.Common.{◌≡◌, ◌≢◌, ℕ, zero, suc, ◌+◌, ◌<◌, ◌≤◌, List, [], ◌∷◌, ◌++◌, length, get_or, set, slice_index, refl, sym, ap, ◌∙◌, subst, inl, inr, ◌⊎◌, arith}
 use native.Mathlib.Decide.{ℕ_discrete, dec_lt}
 use Rattle.std.specs.List.{Contains}
 use Rattle.std.proofs.lemmas.List.{get_or_append_left, get_or_push, get_or_read, get_or-set_other, get_or-set_same, length-set, length_push}
@@ -10,10 +10,11 @@ use Rattle.mr_event.specs.Order.{step_at, thread_at}
 use Rattle.mr_rust_order.specs.declared.index.Mark.{Mark}
 use Rattle.mr_rust_order.specs.declared.index.Shelf.{Shelf}
 use Rattle.mr_rust_order.specs.declared.rows.Row.{Row}
-use Rattle.mr_rust_order.specs.Clocks.{IsClockBehind}
+use Rattle.mr_rust_order.specs.Clocks.{IsClockBehind, Reaches}
 use Rattle.mr_rust_order.specs.Marks.{AreMarked, IsMarked, IsPlaceFor}
-use Rattle.mr_rust_order.specs.Rows.{AreNoted, AreRows, IsOldOrPut, IsPut, IsRow, IsRowFor, no_row, row_at}
+use Rattle.mr_rust_order.specs.Rows.{AreNoted, AreRows, IsKnown, IsKnownRow, IsOldOrPut, IsPut, IsRow, IsRowOf, no_row, row_at}
 use Rattle.mr_rust_order.proofs.AccessLaws.{contains_cases}
+use Rattle.mr_rust_order.proofs.OrderLaws.{reach_on}
 
 pub row_read : (rows : List Row) (x : ℕ) (row : Row) → x < length rows → row ≡ get_or rows x row → row ≡ row_at rows x
 row_read rows x row lt e = get_or_read rows x row lt e no_row
@@ -23,17 +24,23 @@ single : (r a : Access) → Contains (r ∷ []) a → r ≡ a
 single r a (zero, lt, e) = e
 single r a (suc k, lt, e) = absurd (omega (arith, lt))
 
-row_for_same : (old new : List Row) (x : ℕ) → x < length new → row_at new x ≡ row_at old x → IsRowFor new x (row_at old x).range (row_at old x).thread
-row_for_same old new x lt same = record { within = lt; of_range = ap (λ (r : Row). r.range) same; of_thread = ap (λ (r : Row). r.thread) same }
+row_of_same : (old new : List Row) (x : ℕ) → x < length new → row_at new x ≡ row_at old x → IsRowOf new x (row_at old x).range
+row_of_same old new x lt same = record { within = lt; of_range = ap (λ (r : Row). r.range) same }
 
-row_for_on : (new : List Row) (x : ℕ) (a b : Access) (s t : ℕ) → IsRowFor new x a s → a ≡ b → s ≡ t → IsRowFor new x b t
-row_for_on new x a b s t f e g = record { within = f.within; of_range = f.of_range ∙ e; of_thread = f.of_thread ∙ g }
+row_of_on : (new : List Row) (x : ℕ) (a b : Access) → IsRowOf new x a → a ≡ b → IsRowOf new x b
+row_of_on new x a b f e = record { within = f.within; of_range = f.of_range ∙ e }
+
+-- the row at a place for a range is of the range
+pub place_range : (shelves : List Shelf) (marks : List Mark) (rows : List Row) (range : Access) (clock : List ℕ) (x : ℕ) (row : Row) → IsPlaceFor shelves marks rows range clock x → x < length rows
+    → row ≡ get_or rows x row → row.range ≡ range
+place_range shelves marks rows range clock x row (inr t) lt e = absurd (let at = t.0 in omega (arith, at, lt))
+place_range shelves marks rows range clock x row (inl f) lt e = ap (λ (r : Row). r.range) (row_read rows x row lt e) ∙ f.of_range
 
 -- ---- one access
 
--- a row that is put in the place of one of its range and thread
+-- a row that is put in the place of one of its range, whose step was known
 pub noted_set : (old new : List Row) (range : Access) (thread j : ℕ) (clock : List ℕ) (row : Row) (x : ℕ) → IsPut (range ∷ []) thread j clock row → row.range ≡ range
-    → IsRowFor old x range thread → new ≡ set old x row → AreNoted old (range ∷ []) thread j clock new
+    → IsKnownRow old x range clock → new ≡ set old x row → AreNoted old (range ∷ []) thread j clock new
 noted_set old new range thread j clock row x put is f e =
     record {
       longer = omega (arith, long);
@@ -46,15 +53,18 @@ noted_set old new range thread j clock row x put is f e =
             record {
               within = omega (arith, lt, long);
               of_range = ap (λ (r : Row). r.range) (here y at) ∙ is ∙ sym f.of_range ∙ ap (λ (z : ℕ). (row_at old z).range) (sym at);
-              of_thread = ap (λ (r : Row). r.thread) (here y at) ∙ put.of_thread ∙ sym f.of_thread ∙ ap (λ (z : ℕ). (row_at old z).thread) (sym at);
             }
-        | no ne ↦ row_for_same old new y (omega (arith, lt, long)) (there y ne)
+        | no ne ↦ row_of_same old new y (omega (arith, lt, long)) (there y ne)
+      ];
+      known = λ y lt. elim (ℕ_discrete y x) [
+        | yes at ↦ inr (subst (λ (z : ℕ). IsKnown (row_at old z) clock) (sym at) f.known)
+        | no ne ↦ inl (there y ne)
       ];
       here = λ a c.
           let same = here x refl in
           let lt = f.within in (
             x,
-            record { within = omega (arith, lt, long); of_range = ap (λ (r : Row). r.range) same ∙ is ∙ single range a c; of_thread = ap (λ (r : Row). r.thread) same ∙ put.of_thread },
+            record { within = omega (arith, lt, long); of_range = ap (λ (r : Row). r.range) same ∙ is ∙ single range a c },
             ap (λ (r : Row). r.last) same ∙ put.last,
           );
     }
@@ -78,11 +88,12 @@ noted_push old new range thread j clock row put is e =
         | yes low ↦ inl (low, there y low)
         | no over ↦ inr (subst (λ (r : Row). IsPut (range ∷ []) thread j clock r) (sym (here y (omega (arith, lt, over, long)))) put)
       ];
-      kept = λ y lt. row_for_same old new y (omega (arith, lt, long)) (there y lt);
+      kept = λ y lt. row_of_same old new y (omega (arith, lt, long)) (there y lt);
+      known = λ y lt. inl (there y lt);
       here = λ a c.
           let same = here (length old) refl in (
             length old,
-            record { within = omega (arith, long); of_range = ap (λ (r : Row). r.range) same ∙ is ∙ single range a c; of_thread = ap (λ (r : Row). r.thread) same ∙ put.of_thread },
+            record { within = omega (arith, long); of_range = ap (λ (r : Row). r.range) same ∙ is ∙ single range a c },
             ap (λ (r : Row). r.last) same ∙ put.last,
           );
     }
@@ -105,9 +116,9 @@ marked_noted shelves marks old new accesses thread j clock all n more = λ x lt.
       | no over ↦ more x (omega (arith, over)) lt
     ]
 
--- a row at the place for its range and thread: both the rows and their marks
+-- a row at the place for its range: both the rows and their marks
 pub put_set : (shelves : List Shelf) (marks : List Mark) (old : List Row) (range : Access) (thread j x : ℕ) (clock : List ℕ) (row : Row) → IsPut (range ∷ []) thread j clock row → row.range ≡ range
-    → IsPlaceFor shelves marks old range thread x → x < length old → AreMarked shelves marks old
+    → IsPlaceFor shelves marks old range clock x → x < length old → AreMarked shelves marks old
     → AreNoted old (range ∷ []) thread j clock (set old x row) × AreMarked shelves marks (set old x row)
 put_set shelves marks old range thread j x clock row put is (inr t) lt all = absurd (let at = t.0 in omega (arith, at, lt))
 put_set shelves marks old range thread j x clock row put is (inl f) lt all =
@@ -116,7 +127,7 @@ put_set shelves marks old range thread j x clock row put is (inl f) lt all =
     (n, marked_noted shelves marks old (set old x row) (range ∷ []) thread j clock all n (λ y high low. absurd (omega (arith, high, low, long))))
 
 pub put_push : (shelves : List Shelf) (marks : List Mark) (old new : List Row) (range : Access) (thread j x : ℕ) (clock : List ℕ) (row : Row) → IsPut (range ∷ []) thread j clock row → row.range ≡ range
-    → IsPlaceFor shelves marks old range thread x → length old ≤ x → new ≡ old ++ row ∷ [] → AreMarked shelves marks old
+    → IsPlaceFor shelves marks old range clock x → length old ≤ x → new ≡ old ++ row ∷ [] → AreMarked shelves marks old
     → AreNoted old (range ∷ []) thread j clock new × AreMarked shelves marks new
 put_push shelves marks old new range thread j x clock row put is (inl f) past e all = absurd (let lt = f.within in omega (arith, lt, past))
 put_push shelves marks old new range thread j x clock row put is (inr t) past e all =
@@ -142,7 +153,8 @@ noted_none old thread j clock =
     record {
       longer = omega arith;
       each = λ x lt. inl (lt, refl);
-      kept = λ x lt. row_for_same old old x lt refl;
+      kept = λ x lt. row_of_same old old x lt refl;
+      known = λ x lt. inl refl;
       here = λ a c. let lt = c.1 in absurd (omega (arith, lt));
     }
 
@@ -155,7 +167,8 @@ noted_more old mid new xs r thread j clock n m =
       kept = λ x lt.
           let f = n.kept x lt in
           let g = m.kept x f.within in
-          row_for_on new x (row_at mid x).range (row_at old x).range (row_at mid x).thread (row_at old x).thread g f.of_range f.of_thread;
+          row_of_on new x (row_at mid x).range (row_at old x).range g f.of_range;
+      known = λ x lt. known_on x (n.known x lt) (m.known x (n.kept x lt).within);
       here = λ a c. at_access a (contains_cases xs r a c);
     }
   where
@@ -164,6 +177,12 @@ noted_more old mid new xs r thread j clock n m =
 
     right : (a : Access) → Contains (r ∷ []) a → Contains (xs ++ r ∷ []) a
     right a c = Contains-append_right xs (r ∷ []) a c
+
+    known_on : (x : ℕ) → (row_at mid x ≡ row_at old x) ⊎ IsKnown (row_at old x) clock → (row_at new x ≡ row_at mid x) ⊎ IsKnown (row_at mid x) clock
+        → (row_at new x ≡ row_at old x) ⊎ IsKnown (row_at old x) clock
+    known_on x (inr known) later = inr known
+    known_on x (inl same) (inl still) = inl (still ∙ same)
+    known_on x (inl same) (inr known) = inr (subst (λ (w : Row). IsKnown w clock) same known)
 
     from_old : (x : ℕ) → row_at new x ≡ row_at mid x → IsOldOrPut old xs thread j clock x (row_at mid x) → IsOldOrPut old (xs ++ r ∷ []) thread j clock x (row_at new x)
     from_old x same (inl t) = inl (t.0, same ∙ t.1)
@@ -177,11 +196,11 @@ noted_more old mid new xs r thread j clock n m =
     still x is (inl t) = ap (λ (w : Row). w.last) t.1 ∙ is
     still x is (inr p) = p.last
 
-    at_access : (a : Access) → Contains xs a ⊎ (r ≡ a) → (x : ℕ) × IsRowFor new x a thread × ((row_at new x).last ≡ j)
+    at_access : (a : Access) → Contains xs a ⊎ (r ≡ a) → (x : ℕ) × IsRowOf new x a × ((row_at new x).last ≡ j)
     at_access a (inl c) =
         let h = n.here a c in
         let g = m.kept h.0 h.1.within in
-        (h.0, row_for_on new h.0 (row_at mid h.0).range a (row_at mid h.0).thread thread g h.1.of_range h.1.of_thread, still h.0 h.2 (m.each h.0 g.within))
+        (h.0, row_of_on new h.0 (row_at mid h.0).range a g h.1.of_range, still h.0 h.2 (m.each h.0 g.within))
     at_access a (inr e) = m.here a (0, omega arith, e)
 
 -- ---- one more step
@@ -217,17 +236,13 @@ rows_more run j old new clock rows behind n =
             let g = n.kept h.row h.found.within in
             record {
               row = h.row;
-              found = row_for_on new h.row (row_at old h.row).range a (row_at old h.row).thread (thread_at run i) g h.found.of_range h.found.of_thread;
-              last = still i h.row low h.last (n.each h.row g.within);
+              found = row_of_on new h.row (row_at old h.row).range a g h.found.of_range;
+              reached = still i h.row h.found.within h.reached (n.known h.row h.found.within) (n.each h.row g.within);
             }
         | no over ↦
             let at : j ≡ i = omega (arith, lt, over) in
             let h = n.here a (subst (λ (k : ℕ). Contains (step_at run k).accesses a) (sym at) c) in
-            record {
-              row = h.0;
-              found = row_for_on new h.0 a a (thread_at run j) (thread_at run i) h.1 refl (ap (thread_at run) at);
-              last = let is = h.2 in omega (arith, is, at);
-            }
+            record { row = h.0; found = h.1; reached = inl (sym at ∙ sym h.2) }
       ];
     }
   where
@@ -235,6 +250,12 @@ rows_more run j old new clock rows behind n =
     row_of x (inl t) = subst (λ (w : Row). IsRow run (j + 1) w) (sym t.1) (row_later run j (row_at old x) (rows.each x t.0))
     row_of x (inr p) = row_put run j clock (row_at new x) behind p
 
-    still : (i x : ℕ) → i < j → i ≤ (row_at old x).last → IsOldOrPut old (step_at run j).accesses (thread_at run j) j clock x (row_at new x) → i ≤ (row_at new x).last
-    still i x low le (inl t) = let same = ap (λ (w : Row). w.last) t.1 in omega (arith, le, same)
-    still i x low le (inr p) = let is = p.last in omega (arith, low, is)
+    -- the step of a row that is known reaches step j
+    known_reaches : (x : ℕ) → x < length old → IsKnown (row_at old x) clock → Reaches run (row_at old x).last j
+    known_reaches x lt known = behind.only (row_at old x).last (subst (λ (t : ℕ). (row_at old x).last < slice_index clock t) (sym (rows.each x lt).thread) known)
+
+    still : (i x : ℕ) → x < length old → Reaches run i (row_at old x).last → (row_at new x ≡ row_at old x) ⊎ IsKnown (row_at old x) clock
+        → IsOldOrPut old (step_at run j).accesses (thread_at run j) j clock x (row_at new x) → Reaches run i (row_at new x).last
+    still i x lt r (inl same) w = subst (λ (q : Row). Reaches run i q.last) (sym same) r
+    still i x lt r (inr known) (inl t) = subst (λ (q : Row). Reaches run i q.last) (sym t.1) r
+    still i x lt r (inr known) (inr p) = subst (Reaches run i) (sym p.last) (reach_on run i (row_at old x).last j r (known_reaches x lt known))

@@ -11,7 +11,7 @@ use Rattle.mr_base.specs.declared.access.Access.{Access}
 use Rattle.mr_rust_order.specs.declared.index.Mark.{Mark}
 use Rattle.mr_rust_order.specs.declared.index.Shelf.{Shelf}
 use Rattle.mr_rust_order.specs.declared.rows.Row.{Row}
-use Rattle.mr_rust_order.specs.Rows.{IsRowFor, row_at}
+use Rattle.mr_rust_order.specs.Rows.{IsKnownRow, row_at}
 
 -- by shelf, by place, by thread, and then by row
 abbrev pub mark_cmp : Mark → Mark → Ordering
@@ -59,10 +59,11 @@ pub record IsMarked (shelves : List Shelf) (marks : List Mark) (range : Access) 
 abbrev pub AreMarked : List Shelf → List Mark → List Row → Type 0
 AreMarked shelves marks rows = (x : ℕ) → x < length rows → IsMarked shelves marks (row_at rows x).range x
 
--- a row of the range and the thread stands there, or the place is that behind all rows, and marked under the range
-abbrev pub IsPlaceFor : List Shelf → List Mark → List Row → Access → ℕ → ℕ → Type 0
-IsPlaceFor shelves marks rows range thread x =
-    IsRowFor rows x range thread ⊎ ((x ≡ length rows) × IsMarked shelves marks range x)
+-- a row of the range stands there whose step a clock knows, or the place is that behind all rows, and marked under the
+-- range
+abbrev pub IsPlaceFor : List Shelf → List Mark → List Row → Access → List ℕ → ℕ → Type 0
+IsPlaceFor shelves marks rows range clock x =
+    IsKnownRow rows x range clock ⊎ ((x ≡ length rows) × IsMarked shelves marks range x)
 
 -- a number stands in a list
 abbrev pub IsListed : List ℕ → ℕ → Type 0

@@ -1,4 +1,5 @@
--- What was found for late accesses. The ranges of rows never change, so a memo serves as long as no row comes.
+-- What was found for late accesses. The ranges of rows never change, so a memo serves until a row comes, and
+-- then for all rows but those that came.
 use Rattle.std.specs.Prelude.{◌≡◌, ℕ, ◌<◌, ◌≤◌, List, length, slice_index_or, IsTrue}
 use Rattle.mr_base.specs.Accesses.{conflicts}
 use Rattle.mr_rust_order.specs.declared.memos.Memo.{Memo}

@@ -1,13 +1,15 @@
--- The rows of a run: for each range, kind and thread the latest step of the thread that made this access, and for an
--- atomic store the clock behind that step. Nothing is split: accesses that overlap have rows of their own.
+-- The rows of a run: for each range and kind some steps that made this access, so that each step that made it is one of
+-- them or happens before one; and for an atomic store the clock behind the step. So a step takes the row of one that it
+-- knows, and where all steps with an access are in order there is one row. (FastTrack: epochs.) Nothing is split:
+-- accesses that overlap have rows of their own.
 use Rattle.std.specs.Prelude.{◌≡◌, ℕ, ◌+◌, ◌<◌, ◌≤◌, ◌^◌, ◌⊎◌, List, [], length, Bool, false, ◌&&◌, IsTrue}
-use Rattle.std.specs.Prelude.{slice_index_or}
+use Rattle.std.specs.Prelude.{slice_index, slice_index_or}
 use Rattle.std.specs.List.{Contains}
 use Rattle.mr_base.specs.declared.access.Access.{Access}
 use Rattle.mr_event.specs.Footprint.{Footprint}
 use Rattle.mr_event.specs.Order.{step_at, thread_at}
 use Rattle.mr_rust_order.specs.declared.rows.Row.{Row}
-use Rattle.mr_rust_order.specs.Clocks.{IsClockBehind}
+use Rattle.mr_rust_order.specs.Clocks.{IsClockBehind, Reaches}
 
 -- what stands past the end of the rows
 abbrev pub no_row : Row
@@ -17,11 +19,20 @@ no_row =
 abbrev pub row_at : List Row → ℕ → Row
 row_at rows x = slice_index_or rows x no_row
 
--- a row of the range and the thread stands at a place
-pub record IsRowFor (rows : List Row) (x : ℕ) (range : Access) (thread : ℕ) : Type 0 where
+-- a row of the range stands at a place
+pub record IsRowOf (rows : List Row) (x : ℕ) (range : Access) : Type 0 where
   pub within : x < length rows
   pub of_range : (row_at rows x).range ≡ range
-  pub of_thread : (row_at rows x).thread ≡ thread
+
+-- a clock knows the step of a row
+abbrev pub IsKnown : Row → List ℕ → Type 0
+IsKnown row clock = row.last < slice_index clock row.thread
+
+-- a row of the range stands at a place, and a clock knows its step
+pub record IsKnownRow (rows : List Row) (x : ℕ) (range : Access) (clock : List ℕ) : Type 0 where
+  pub within : x < length rows
+  pub of_range : (row_at rows x).range ≡ range
+  pub known : IsKnown (row_at rows x) clock
 
 -- whether an access is an atomic store
 abbrev pub is_release : Access → Bool
@@ -34,11 +45,11 @@ pub record IsRow (run : List Footprint) (n : ℕ) (row : Row) : Type 0 where
   pub made : Contains (step_at run row.last).accesses row.range
   pub clock : IsTrue (is_release row.range) → IsClockBehind run row.clock row.last
 
--- an access of step i has a row of its thread, with i or a later step
+-- an access of step i has a row, with i or a step that it happens before
 pub record IsHeld (run : List Footprint) (rows : List Row) (i : ℕ) (a : Access) : Type 0 where
   pub row : ℕ
-  pub found : IsRowFor rows row a (thread_at run i)
-  pub last : i ≤ (row_at rows row).last
+  pub found : IsRowOf rows row a
+  pub reached : Reaches run i (row_at rows row).last
 
 -- the rows of the first n steps of a run
 pub record AreRows (run : List Footprint) (n : ℕ) (rows : List Row) : Type 0 where
@@ -62,14 +73,14 @@ IsOldOrPut old accesses thread j clock x row =
     ((x < length old) × (row ≡ row_at old x)) ⊎ IsPut accesses thread j clock row
 
 -- A step j noted accesses of its own: each row is as it was, or put in for one of them; each old row stands where it
--- stood, of its range and thread; and each of the accesses has a row with j.
+-- stood, of its range, and is as it was, or the clock knew its step; and each of the accesses has a row with j.
 pub record AreNoted (old : List Row) (accesses : List Access) (thread j : ℕ) (clock : List ℕ)
     (new : List Row) : Type 0 where
   pub longer : length old ≤ length new
   pub each : (x : ℕ) → x < length new → IsOldOrPut old accesses thread j clock x (row_at new x)
-  pub kept : (x : ℕ) → x < length old → IsRowFor new x (row_at old x).range (row_at old x).thread
-  pub here : (a : Access) → Contains accesses a
-      → (x : ℕ) × IsRowFor new x a thread × ((row_at new x).last ≡ j)
+  pub kept : (x : ℕ) → x < length old → IsRowOf new x (row_at old x).range
+  pub known : (x : ℕ) → x < length old → (row_at new x ≡ row_at old x) ⊎ IsKnown (row_at old x) clock
+  pub here : (a : Access) → Contains accesses a → (x : ℕ) × IsRowOf new x a × ((row_at new x).last ≡ j)
 
 -- the row at a place passes a test
 pub record Passes (rows : List Row) (test : Row → Bool) (x : ℕ) : Type 0 where

@@ -90,6 +90,7 @@ impl Analysis {
                 shelves: Vec::new(alloc),
                 marks: BTreeSet::new(alloc),
                 places,
+                alone: Vec::new(alloc),
             },
             rows: Vec::new(alloc),
             memos,

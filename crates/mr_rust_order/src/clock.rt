@@ -1,6 +1,6 @@
 //! A vector clock. (Lamport; FastTrack: vector clocks.)
 
-ghost use Rattle.std.specs.Prelude.{◌≡◌, ◌≢◌, ℕ, ◌+◌, ◌<◌, ◌≤◌, ◌^◌, [], max, length, slice_index, IfOk, OnOk, OnErr};
+ghost use Rattle.std.specs.Prelude.{◌≡◌, ◌≢◌, ℕ, ◌+◌, ◌<◌, ◌≤◌, ◌^◌, [], max, length, slice_index, OnOk};
 ghost use Rattle.mr_rust_order.specs.Clocks.{IsJoin};
 
 use mr_event::OutOfMemory;
@@ -41,13 +41,12 @@ impl Clock {
         }
     }
 
-    /// The same numbers.
-    pub(crate) fn copied(&self, alloc: Global) -> Result<Clock, OutOfMemory>
-        ensures { IfOk result (λ c. c ≡ self.now) }
+    /// Takes the numbers of another clock in the place of its own.
+    pub(crate) fn copy(&mut self, other: &Clock) -> Result<(), OutOfMemory>
+        ensures { OnOk result (self.new ≡ other.now) }
     {
-        let mut times = Vec::new(alloc);
-        times.extend_from_slice(self.times.as_slice())?;
-        Ok(Clock { times })
+        self.times.clear();
+        self.times.extend_from_slice(other.times.as_slice())
     }
 
     /// Raises the number of a thread, if it is lower.

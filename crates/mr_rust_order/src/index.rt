@@ -5,17 +5,14 @@ ghost use Rattle.std.specs.Prelude.{◌≡◌, ℕ, ◌<◌, ◌≤◌, ◌^◌,
 ghost use Rattle.mr_base.specs.Accesses.{conflicts};
 ghost use Rattle.mr_base.specs.declared.access.Access.{Access};
 ghost use Rattle.mr_rust_order.specs.declared.index.Mark.{Mark};
-ghost use Rattle.mr_rust_order.specs.Marks.{AreKept, AreMarked, IsListed, IsMarked, IsOnShelf, IsPlaceFor};
+ghost use Rattle.mr_rust_order.specs.Marks.{AreKept, IsListed, IsMarked, IsOnShelf};
 ghost use Rattle.mr_rust_order.specs.Marks.{has_mark, mark_of, shelf_at};
-ghost use Rattle.mr_rust_order.specs.Rows.{IsRowFor, row_at as is_row_at};
 
-use crate::memos::spread;
-use crate::rows::{Row, row_at};
 use mr_base::Access;
 use mr_event::OutOfMemory;
 use std::collections::BTreeSet;
 
-/// A row of a thread, marked on a shelf at the address where its range begins.
+/// A row, marked on a shelf at the address where its range begins, by the thread that made it.
 #[derive(Clone, Copy, Debug, PartialEq, Eq, PartialOrd, Ord)]
 pub struct Mark {
     pub shelf: u64,
@@ -32,12 +29,13 @@ pub struct Shelf {
 }
 
 /// The shelves, and the marks of the rows. The marks of a shelf have its place for a number. And places of late rows,
-/// each to be looked at before it is believed.
+/// each to be looked at before it is believed; and of each row whether it is the only one of its range.
 #[derive(Drop)]
 pub struct Index {
     pub shelves: Vec<Shelf>,
     pub marks: BTreeSet<Mark>,
     pub places: Vec<usize>,
+    pub alone: Vec<bool>,
 }
 
 // The width of the shelf of the ranges of a length.
@@ -89,8 +87,8 @@ fn find_shelf(shelves: &[Shelf], shelf: Shelf) -> Option<usize>
     None
 }
 
-// The number of the shelf of a range, which is in use from then on.
-fn use_shelf(shelves: &mut Vec<Shelf>, range: Access) -> Result<u64, OutOfMemory>
+/// The number of the shelf of a range, which is in use from then on.
+pub(crate) fn use_shelf(shelves: &mut Vec<Shelf>, range: Access) -> Result<u64, OutOfMemory>
     ensures kept { AreKept shelves.old.items shelves.new.items }
     ensures placed { IfOk result (λ s. IsOnShelf shelves.new.items range s) }
 {
@@ -184,49 +182,8 @@ pub(crate) fn find_rows(
     Ok(())
 }
 
-// Whether there is a row of a range and a thread at a place.
-fn is_row_for(rows: &[Row], x: usize, range: Access, thread: u32) -> bool
-    ensures { IsTrue result → IsRowFor rows.now x range thread }
-{
-    if x >= rows.len() {
-        return false;
-    }
-    let row = row_at(rows, x);
-    row.thread == thread && row.range == range
-}
-
-// The place of a row of a range and a thread among those that are marked on a shelf, if there is one.
-fn row_for(
-    marks: &BTreeSet<Mark>,
-    rows: &[Row],
-    shelf: u64,
-    range: Access,
-    thread: u32,
-) -> Option<usize>
-    ensures { IfSome result (λ x. IsRowFor rows.now x range thread) }
-{
-    let first = Mark {
-        shelf,
-        place: range.addr,
-        thread,
-        row: 0,
-    };
-    let last = Mark {
-        shelf,
-        place: range.addr,
-        thread,
-        row: usize::MAX,
-    };
-    for mark in marks.range(first..=last) {
-        if is_row_for(rows, mark.row, range, thread) {
-            return Some(mark.row);
-        }
-    }
-    None
-}
-
-// Marks a new row.
-fn mark_row(
+/// Marks a new row.
+pub(crate) fn mark_row(
     index: &mut Index,
     shelf: u64,
     range: Access,
@@ -246,57 +203,4 @@ fn mark_row(
         row,
     })?;
     Ok(())
-}
-
-// The row that was found last for a slot, if it is of this range and thread.
-fn late_row(
-    places: &[usize],
-    slot: usize,
-    rows: &[Row],
-    range: Access,
-    thread: u32,
-) -> Option<usize>
-    ensures { IfSome result (λ x. IsRowFor rows.now x range thread) }
-{
-    if slot >= places.len() {
-        return None;
-    }
-    let x = places[slot];
-    if is_row_for(rows, x, range, thread) {
-        Some(x)
-    } else {
-        None
-    }
-}
-
-// Keeps the row that was found last for a slot.
-fn keep_place(places: &mut Vec<usize>, slot: usize, x: usize) {
-    if slot < places.len() {
-        places[slot] = x;
-    }
-}
-
-/// The place of the row of a range and a thread; if there is none, the place behind all rows, which is marked for it.
-pub(crate) fn place_for(
-    index: &mut Index,
-    rows: &[Row],
-    range: Access,
-    thread: u32,
-) -> Result<usize, OutOfMemory>
-    requires { AreMarked index.old.shelves.items index.old.marks.keys rows.now }
-    ensures marked { OnOk result (AreMarked index.new.shelves.items index.new.marks.keys rows.now) }
-    ensures place { IfOk result (λ x. IsPlaceFor index.new.shelves.items index.new.marks.keys rows.now range thread x) }
-{
-    let slot = spread(range.addr, u64::from(thread));
-    if let Some(x) = late_row(index.places.as_slice(), slot, rows, range, thread) {
-        return Ok(x);
-    }
-    let shelf = use_shelf(&mut index.shelves, range)?;
-    if let Some(x) = row_for(&index.marks, rows, shelf, range, thread) {
-        keep_place(&mut index.places, slot, x);
-        return Ok(x);
-    }
-    let row = rows.len();
-    mark_row(index, shelf, range, thread, row)?;
-    Ok(row)
 }

@@ -22,13 +22,14 @@
 //! behind it by Rust's order, both orders are one and list the same races: `specs/Plain.antt`).
 //!
 //! How it goes: a step sends the clock behind it to its thread, to the threads that it woke or started, to a lock
-//! that it releases, and to those that join its thread where it ends that (`specs/Channels.antt`). For each range,
-//! kind and thread a row keeps the latest step that made this access, and with an atomic store the clock behind that
-//! step (`specs/Rows.antt`). An atomic load looks up the rows that it meets, and finds for each byte the latest store
-//! (`specs/Loads.antt`). A step races with some step of a thread exactly where it races with the latest one of a row
-//! that its clock doesn't know (`specs/Partners.antt`). Rows are found by marks on shelves (`specs/Marks.antt`), so a
-//! step takes the time of the rows that its accesses meet, and a logarithm of all rows. What was found is kept for
-//! late accesses (`specs/Memos.antt`): one that is made again needs no search, unless a row came since.
+//! that it releases, and to those that join its thread where it ends that (`specs/Channels.antt`). For each range and
+//! kind rows keep steps that made this access, so that each other step that made it happens before one of them, and
+//! with an atomic store the clock behind the step (`specs/Rows.antt`): a step takes the row of one that it knows. An
+//! atomic load looks up the rows that it meets, and finds for each byte the latest store (`specs/Loads.antt`). A step
+//! has a race exactly where it races with the step of a row that its clock doesn't know (`specs/Partners.antt`). Rows
+//! are found by marks on shelves (`specs/Marks.antt`), so a step takes the time of the rows that its accesses meet, and
+//! a logarithm of all rows. What was found is kept for late accesses (`specs/Memos.antt`): one that is made again looks
+//! at the rows that came since alone, unless these are many.
 #![tactic(auto)]
 
 mod analysis;
@@ -42,6 +43,7 @@ mod memos;
 mod partners;
 mod rows;
 mod runs;
+mod taking;
 
 pub use analysis::Analysis;
 pub use gaps::first_gap;

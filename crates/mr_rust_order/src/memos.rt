@@ -1,16 +1,20 @@
-//! What was found for late accesses, so that an access that is made again needs no search, unless rows came since.
+//! What was found for late accesses, so that an access that is made again needs no search, unless many rows came since.
 
-ghost use Rattle.std.specs.Prelude.{◌≡◌, ◌<◌, [], IfOk, IsTrue, OnOk, length, slice_index_or};
+ghost use Rattle.std.specs.Prelude.{◌≡◌, ℕ, ◌+◌, ◌<◌, ◌≤◌, [], IfOk, IsTrue, OnOk, length, slice_index_or};
+ghost use Rattle.mr_base.specs.Accesses.{conflicts};
 ghost use Rattle.mr_rust_order.specs.declared.memos.Memo.{Memo};
 ghost use Rattle.mr_rust_order.specs.Loads.{AreMet};
-ghost use Rattle.mr_rust_order.specs.Marks.{AreMarked};
+ghost use Rattle.mr_rust_order.specs.Marks.{AreMarked, IsListed};
 ghost use Rattle.mr_rust_order.specs.Memos.{AreMemos, IsMemo};
 
 use crate::index::{Index, find_rows};
-use crate::rows::Row;
-use mr_base::Access;
+use crate::rows::{Row, row_at};
+use mr_base::{Access, ranges_meet};
 use mr_event::OutOfMemory;
 use std::alloc::Global;
+
+// A memo looks at so many rows that came since, and no more.
+const FEW: usize = 16;
 
 /// How many memos there are.
 pub(crate) const MEMOS: usize = 1024;
@@ -48,11 +52,18 @@ pub(crate) fn no_memos(alloc: Global) -> Result<Vec<Memo>, OutOfMemory>
     Ok(memos)
 }
 
-/// A number by which accesses mostly differ.
-pub(crate) fn spread(addr: u64, more: u64) -> usize
+/// A number by which accesses mostly differ, of threads or of none.
+pub(crate) fn spread(access: Access, thread: u32) -> usize
     ensures { result < 1024 }
 {
-    (addr.wrapping_add(more).wrapping_mul(SPREAD) / WIDTH) as usize
+    let kind = u64::from(access.store)
+        .wrapping_mul(2)
+        .wrapping_add(u64::from(access.atomic));
+    let part = u64::from(thread)
+        .wrapping_mul(4)
+        .wrapping_add(kind)
+        .wrapping_mul(SPREAD);
+    (access.addr.wrapping_add(part).wrapping_mul(SPREAD) / WIDTH) as usize
 }
 
 fn same_access(a: Access, b: Access) -> bool
@@ -61,15 +72,64 @@ fn same_access(a: Access, b: Access) -> bool
     a == b
 }
 
-// Looks the rows up anew, if the memo is of another access or rows came since.
+// Whether two accesses have a byte in common, and one of them stores.
+fn conflict(a: Access, b: Access) -> bool
+    ensures { result ≡ conflicts a b }
+{
+    (a.store || b.store) && ranges_meet(a.addr, a.len, b.addr, b.len)
+}
+
+// Appends the place of a row, if it is wanted.
+fn push_if(found: &mut Vec<usize>, x: usize, wanted: bool) -> Result<(), OutOfMemory>
+    ensures kept { OnOk result ((y : ℕ) → IsListed found.old.items y → IsListed found.new.items y) }
+    ensures here { OnOk result (IsTrue wanted → IsListed found.new.items x) }
+{
+    if !wanted {
+        return Ok(());
+    }
+    found.push(x)?;
+    Ok(())
+}
+
+// Looks at the row behind those that a memo counts.
+fn count_one(rows: &[Row], memo: &mut Memo) -> Result<(), OutOfMemory>
+    requires within { memo.old.count < length rows.now }
+    requires memo { IsMemo rows.now memo.old }
+    ensures memo { OnOk result (IsMemo rows.now memo.new) }
+    ensures access { OnOk result (memo.new.access ≡ memo.old.access) }
+    ensures count { OnOk result (memo.new.count ≡ memo.old.count + 1) }
+{
+    let x = memo.count;
+    let row = row_at(rows, x);
+    let wanted = conflict(row.range, memo.access);
+    push_if(&mut memo.found, x, wanted)?;
+    memo.count = x + 1;
+    Ok(())
+}
+
+// Looks at the rows that came since.
+fn catch_up(rows: &[Row], memo: &mut Memo) -> Result<(), OutOfMemory>
+    requires { IsMemo rows.now memo.old }
+    ensures memo { OnOk result (IsMemo rows.now memo.new) }
+    ensures access { OnOk result (memo.new.access ≡ memo.old.access) }
+    ensures all { OnOk result (length rows.now ≤ memo.new.count) }
+{
+    for k in memo.count..rows.len() {
+        count_one(rows, memo)?;
+    }
+    Ok(())
+}
+
+// Looks the rows up anew, if the memo is of another access or many rows came since.
 fn refresh(index: &Index, rows: &[Row], memo: &mut Memo, access: Access) -> Result<(), OutOfMemory>
     requires marked { AreMarked index.now.shelves.items index.now.marks.keys rows.now }
     requires memo { IsMemo rows.now memo.old }
     ensures memo { OnOk result (IsMemo rows.now memo.new) }
     ensures met { OnOk result (AreMet rows.now access memo.new.found.items) }
 {
-    if memo.count == rows.len() {
+    if rows.len() - memo.count <= FEW {
         if same_access(memo.access, access) {
+            catch_up(rows, memo)?;
             return Ok(());
         }
     }
@@ -93,7 +153,7 @@ pub(crate) fn rows_met(
     ensures met { IfOk result
         (λ s. (d : Memo) → AreMet rows.now access (slice_index_or memos.new.items s d).found.items) }
 {
-    let slot = spread(access.addr, u64::from(access.store));
+    let slot = spread(access, 0);
     let memo = &mut memos[slot];
     refresh(index, rows, memo, access)?;
     Ok(slot)

@@ -1,18 +1,19 @@
-//! Rows: for each range, kind and thread the latest step of the thread that made this access. (FastTrack: shadow
-//! memory.)
+//! Rows: for each range and kind steps that made this access, so that each other step that made it happens before one
+//! of them. (FastTrack: shadow memory, epochs.)
 
-ghost use Rattle.std.specs.Prelude.{◌≡◌, ◌∷◌, [], ◌<◌, IfOk, IsTrue, OnOk, length};
+ghost use Rattle.std.specs.Prelude.{◌≡◌, ◌∷◌, [], ◌<◌, IsTrue, OnOk, length};
 ghost use Rattle.mr_rust_order.specs.Marks.{AreMarked};
-ghost use Rattle.mr_rust_order.specs.Rows.{AreNoted, is_release as has_release, row_at as is_row_at};
+ghost use Rattle.mr_rust_order.specs.Rows.{AreNoted, IsPut, is_release as has_release, row_at as is_row_at};
 
 use crate::clock::Clock;
-use crate::index::{Index, place_for};
+use crate::index::Index;
+use crate::taking::place_for;
 use mr_base::Access;
 use mr_event::{Footprint, OutOfMemory};
 use std::alloc::Global;
 
-/// The latest step of a thread that made an access of a range and a kind, and, where this is an atomic store, the clock
-/// behind that step.
+/// A step of a thread that made an access of a range and a kind, and, where this is an atomic store, the clock behind
+/// that step.
 #[derive(Drop)]
 pub struct Row {
     pub range: Access,
@@ -37,18 +38,29 @@ fn is_release(access: Access) -> bool
     access.store && access.atomic
 }
 
-// The clock that is kept beside an access: that of the step, for an atomic store.
-fn kept_clock(alloc: Global, access: Access, clock: &Clock) -> Result<Clock, OutOfMemory>
-    ensures { IfOk result (λ c. IsTrue (has_release access) → c ≡ clock.now) }
+// Makes the clock that is kept beside an access that of its step, for an atomic store.
+fn keep_clock(kept: &mut Clock, access: Access, clock: &Clock) -> Result<(), OutOfMemory>
+    ensures { OnOk result (IsTrue (has_release access) → kept.new ≡ clock.now) }
 {
-    if is_release(access) {
-        clock.copied(alloc)
-    } else {
-        Ok(Clock::new(alloc))
+    if !is_release(access) {
+        return Ok(());
     }
+    kept.copy(clock)?;
+    Ok(())
 }
 
-// Notes an access of step `j`, in the row of its range and thread.
+// Puts step `j` in a row, in the place of one that it knows.
+fn renew(row: &mut Row, thread: u32, j: usize, clock: &Clock) -> Result<(), OutOfMemory>
+    ensures range { OnOk result (row.new.range ≡ row.old.range) }
+    ensures put { OnOk result (IsPut (row.old.range ∷ []) thread j clock.now row.new) }
+{
+    row.thread = thread;
+    row.last = j;
+    keep_clock(&mut row.clock, row.range, clock)?;
+    Ok(())
+}
+
+// Notes an access of step `j`, in a row of its range.
 fn note(
     alloc: Global,
     index: &mut Index,
@@ -62,19 +74,20 @@ fn note(
     ensures marked { OnOk result (AreMarked index.new.shelves.items index.new.marks.keys rows.new.items) }
     ensures noted { OnOk result (AreNoted rows.old.items (range ∷ []) thread j clock.now rows.new.items) }
 {
-    let x = place_for(index, rows.as_slice(), range, thread)?;
-    let kept = kept_clock(alloc, range, clock)?;
-    let row = Row {
+    let x = place_for(index, rows.as_slice(), range, thread, clock)?;
+    if x < rows.len() {
+        let row = &mut rows[x];
+        renew(row, thread, j, clock)?;
+        return Ok(());
+    }
+    let mut kept = Clock::new(alloc);
+    keep_clock(&mut kept, range, clock)?;
+    rows.push(Row {
         range,
         thread,
         last: j,
         clock: kept,
-    };
-    if x < rows.len() {
-        rows[x] = row;
-        return Ok(());
-    }
-    rows.push(row)?;
+    })?;
     Ok(())
 }
 

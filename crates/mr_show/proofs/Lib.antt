@@ -1,3 +1,4 @@
+pub mod AloneLaws
 pub mod CheckedLaws
 pub mod EndLaws
 pub mod FillLaws

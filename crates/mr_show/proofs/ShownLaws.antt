@@ -1,6 +1,6 @@
 -- What is said of a run, from how its parts are answered.
-use Rattle.std.proofs.Common.{◌≡◌, ℕ, ap, sym, ◌∙◌, subst, length, List, [], inl, inr}
-use Rattle.std.specs.Prelude.{Option, None, Some, Result, Ok, Err}
+use Rattle.std.proofs.Common.{◌≡◌, ℕ, ◌<◌, ◌≤◌, ◌^◌, arith, ap, sym, ◌∙◌, subst, length, List, [], inl, inr}
+use Rattle.std.specs.Prelude.{OnOk, Option, None, Some, Result, Ok, Err}
 use Rattle.mr_ast.specs.declared.program.Program.{Program}
 use Rattle.mr_lex.specs.Reading.{lexed}
 use Rattle.mr_lex.specs.Tokens.{Lexeme}
@@ -18,7 +18,8 @@ use Rattle.mr_start.proofs.RunLaws.{no_schedule_fault}
 use Rattle.mr_step.specs.Standing.{Standing}
 use Rattle.mr_run.specs.declared.fault.RunFault.{RunFault}
 use Rattle.mr_run.specs.declared.fault.RunFault.TheVariants.{Broken, Memory}
-use Rattle.mr_run.specs.Runs.{IsFirstFault, IsRun}
+use Rattle.mr_run.specs.Runs.{IsFirstFault, IsRun, RunAnswer}
+use Rattle.mr_run.proofs.StepCount.{steps_within}
 use Rattle.mr_input.specs.declared.refusal.Refusal.{Refusal}
 use Rattle.mr_input.specs.declared.written.Written.{Written}
 use Rattle.mr_input.specs.Answer.{Answer, Tells, TellsOrUnread, form_or, told}
@@ -27,27 +28,24 @@ use Rattle.mr_input.proofs.RefusedLaws.{refused_over, same_refusal}
 use Rattle.mr_answer.specs.Answers.{unless_broken}
 use Rattle.mr_answer.specs.Running.{refusal_by}
 use Rattle.mr_labels.specs.declared.rows.Allocation.{Allocation}
+use Rattle.mr_labels.specs.declared.step.Stand.{Stand}
 use Rattle.mr_labels.specs.declared.step.ToldStep.{ToldStep}
 use Rattle.mr_show.specs.declared.form.Part.{Part}
 use Rattle.mr_show.specs.declared.form.Saying.{Saying}
 use Rattle.mr_replay.specs.Spoken.{spoken_of}
-use Rattle.mr_show.specs.Answer.{answer_under, file_answer, part_answer, part_steps}
-use Rattle.mr_show.specs.Answer.{program_answer, ran_answer, run_rows, run_seen}
+use Rattle.mr_show.specs.Answer.{answer_under, file_answer, part_answer, program_answer, ran_answer, rows_in, run_seen}
+use Rattle.mr_show.specs.Answer.{stands_in, steps_in, told_for}
 use Rattle.mr_show.specs.Gathered.{gathered, lexemes_in}
-use Rattle.mr_show.specs.Answering.{IsOfFile, IsOfProgram, IsOfText, IsScheduleUnread}
+use Rattle.mr_show.specs.Answering.{IsOfFile, IsOfProgram, IsOfText, IsScheduleUnread, IsToldAs}
 
 -- ---- the run
 
 module _ (part : Part) (text : List ℕ) (p : Program) (v : Version) (w : Schedule) where
-  -- one that was taken to its end is told by where its machine stands behind how many steps, their allocations, what
-  -- those of the part tell, and their footprints
-  pub told_run : (m : Standing) (count : ℕ) (rows : List Allocation) (steps : List ToldStep) (feet : List Footprint)
-      → (result : Result Written Refusal) → IsRun p w m → count ≡ length w.entries → rows ≡ run_rows p w
-      → steps ≡ part_steps part p w → feet ≡ steps_of p w
-      → Tells (part_answer part (spoken_of p w) (gathered text p m.config count rows steps feet)) result
+  -- one that was taken to its end is told so
+  pub told_run : (m : Standing) (a : Answer) (result : Result Written Refusal) → IsRun p w m
+      → a ≡ part_answer part (spoken_of p w) (run_seen part text p w) → Tells a result
       → Tells (ran_answer part text p v w) result
-  told_run m count rows steps feet result run all made tell are tells =
-      subst (λ (a : Answer). Tells a result) (whole ∙ sym legal) tells
+  told_run m a result run is tells = subst (λ (b : Answer). Tells b result) (is ∙ sym legal) tells
     where
       legal : ran_answer part text p v w ≡ part_answer part (spoken_of p w) (run_seen part text p w)
       legal =
@@ -55,17 +53,36 @@ module _ (part : Part) (text : List ℕ) (p : Program) (v : Version) (w : Schedu
           told (part_answer part (spoken_of p w)) (unless_broken v w f (run_seen part text p w)))
           (no_schedule_fault p w run.legal)
 
-      whole : part_answer part (spoken_of p w) (gathered text p m.config count rows steps feet)
-          ≡ part_answer part (spoken_of p w) (run_seen part text p w)
-      whole =
-          (λ i. part_answer part (spoken_of p w) (gathered text p (run.config i) (all i) (made i) (tell i) (are i)))
-
   -- and the first rule that the schedule breaks, on its line
   pub told_broken : (f : RunFault) → IsFirstFault p w f → Tells (ran_answer part text p v w) (Err (refusal_by v w f))
   told_broken (Broken place code earlier) h =
       ap (λ (o : Option PlacedFault).
       told (part_answer part (spoken_of p w)) (unless_broken v w o (run_seen part text p w))) h
   told_broken Memory h = tt
+
+  -- by where its machine stands, the allocations and the steps that are told, where threads stood, and its footprints
+  pub told_whole : (outcome : Result Standing RunFault) (rows : List Allocation) (steps : List ToldStep)
+      (stands : List (Option Stand)) (feet : List Footprint) → RunAnswer p w outcome
+      → OnOk outcome (rows ≡ rows_in (told_for part) p w) → OnOk outcome (steps ≡ steps_in (told_for part) p w)
+      → OnOk outcome (stands ≡ stands_in (told_for part) p w) → OnOk outcome (feet ≡ steps_of p w)
+      → IsToldAs part text p w rows steps stands feet outcome
+  told_whole (Ok m) rows steps stands feet run made tell stood are =
+      (λ i. part_answer part (spoken_of p w)
+      (gathered text p (run.config i) (length w.entries) (made i) (tell i) (stood i) (are i)))
+  told_whole (Err f) rows steps stands feet run made tell stood are = tt
+
+-- the footprints of a run are few
+pub few_feet : (p : Program) (w : Schedule) (outcome : Result Standing RunFault) (feet : List Footprint)
+    → length w.entries ≤ 2 ^ 22 → OnOk outcome (feet ≡ steps_of p w) → OnOk outcome (length feet < 2 ^ 32)
+few_feet p w (Ok m) feet few are =
+    let within = steps_within p w in
+    subst (λ (fs : List Footprint). length fs < 2 ^ 32) (sym are) (omega (arith, within, few))
+few_feet p w (Err f) feet few are = tt
+
+-- what follows, where nothing failed
+pub on_ok : {A E X Y : Type 0} (r : Result A E) → (X → Y) → OnOk r X → OnOk r Y
+on_ok (Ok a) f x = f x
+on_ok (Err e) f x = tt
 
 -- ---- the text
 

@@ -1,5 +1,5 @@
 -- What a call answers by definition: a text and a status, from the words and what the files hold.
-use Rattle.std.specs.Prelude.{ℕ, ◌^◌, List, [], ◌++◌, codes, decimal, flat_map, length, map, Option, None, Some}
+use Rattle.std.specs.Prelude.{ℕ, ◌^◌, Bool, true, false, List, [], ◌++◌, codes, decimal, flat_map, length, map, Option, None, Some}
 use Rattle.std.specs.Prelude.{if◌then◌else◌}
 use Rattle.mr_ast.specs.declared.program.Program.{Program}
 use Rattle.mr_io.specs.Files.{Contents}
@@ -19,9 +19,11 @@ use Rattle.mr_answer.specs.Report.{report_status}
 use Rattle.mr_replay.specs.Spoken.{spoken_of}
 use Rattle.mr_base.specs.declared.reached.Reached.{Reached}
 use Rattle.mr_labels.specs.declared.rows.Allocation.{Allocation}
+use Rattle.mr_labels.specs.declared.step.Stand.{Stand}
 use Rattle.mr_labels.specs.declared.step.ToldStep.{ToldStep}
 use Rattle.mr_labels.specs.Table.{start_rows, step_rows}
 use Rattle.mr_replay.specs.declared.telling.Between.{Between}
+use Rattle.mr_replay.specs.Stands.{stands_of}
 use Rattle.mr_replay.specs.Told.{if_between, told_steps}
 use Rattle.mr_picture.specs.declared.span.Span.{Span}
 use Rattle.mr_listing.specs.Races.{races_text}
@@ -59,30 +61,48 @@ abbrev pub drawn_between : Option Span → Between
 drawn_between None = record { from = 0; to = 2 ^ 22 }
 drawn_between (Some span) = record { from = span.from; to = span.to }
 
--- the steps that are told for a part: for races and for an order all
-abbrev pub between : Part → Between
-between (Steps from to) = record { from = from; to = to }
-between Races = record { from = 0; to = 2 ^ 22 }
-between TwoOrders = record { from = 0; to = 2 ^ 22 }
-between (Order first second) = record { from = 0; to = 2 ^ 22 }
-between (Picture asked) = drawn_between asked
+-- the steps that are told for a part; races and an order ask for none, but for where the threads of all steps stood
+abbrev pub told_for : Part → Option Between
+told_for (Steps from to) = Some (record { from = from; to = to })
+told_for Races = None
+told_for TwoOrders = None
+told_for (Order first second) = None
+told_for (Picture asked) = Some (drawn_between asked)
 
-abbrev pub part_steps : Part → Program → Schedule → List ToldStep
-part_steps part p w = flat_map (if_between (between part)) (told_steps p w)
+abbrev pub steps_in : Option Between → Program → Schedule → List ToldStep
+steps_in None p w = []
+steps_in (Some part) p w = flat_map (if_between part) (told_steps p w)
+
+abbrev pub stands_in : Option Between → Program → Schedule → List (Option Stand)
+stands_in None p w = stands_of p w
+stands_in (Some part) p w = []
 
 -- the allocations of the start, which got these picks
 abbrev pub first_rows : Program → List ℕ → List Allocation
 first_rows p picks = start_rows p (map ask_of (pieces p)) picks
 
+-- whether a part tells of races alone, of which a run of one thread has none
+abbrev pub lists_races : Part → Bool
+lists_races Races = true
+lists_races TwoOrders = true
+lists_races (Steps from to) = false
+lists_races (Order first second) = false
+lists_races (Picture asked) = false
+
 -- THE ALLOCATIONS of a run, in the order in which they are made
 abbrev pub run_rows : Program → Schedule → List Allocation
 run_rows p w = first_rows p w.start ++ flat_map (step_rows p) (told_steps p w)
 
+-- the same, where steps are told
+abbrev pub rows_in : Option Between → Program → Schedule → List Allocation
+rows_in None p w = []
+rows_in (Some part) p w = run_rows p w
+
 -- WHAT THE RUN of the program of a text under a schedule tells for a part
 abbrev pub run_seen : Part → List ℕ → Program → Schedule → Seen
 run_seen part text p w =
-    gathered text p (run_of p w) (length w.entries) (run_rows p w) (part_steps part p w)
-    (steps_of p w)
+    gathered text p (run_of p w) (length w.entries) (rows_in (told_for part) p w) (steps_in (told_for part) p w)
+    (stands_in (told_for part) p w) (steps_of p w)
 
 -- ---- what is said of it
 

@@ -1,7 +1,15 @@
 -- How a form is answered, whatever the files do.
-use Rattle.std.specs.Prelude.{◌≡◌, ◌⊎◌, List, ℕ, [], Option, Some, Result, Ok, Err}
+use Rattle.std.specs.Prelude.{◌≡◌, ◌⊎◌, List, ℕ, [], length, IfOk, Option, Some, Result, Ok, Err}
 use Rattle.mr_ast.specs.declared.program.Program.{Program}
+use Rattle.mr_event.specs.Footprint.{Footprint}
 use Rattle.mr_io.specs.Files.{Contents}
+use Rattle.mr_labels.specs.declared.rows.Allocation.{Allocation}
+use Rattle.mr_labels.specs.declared.step.Stand.{Stand}
+use Rattle.mr_labels.specs.declared.step.ToldStep.{ToldStep}
+use Rattle.mr_replay.specs.Spoken.{spoken_of}
+use Rattle.mr_run.specs.declared.fault.RunFault.{RunFault}
+use Rattle.mr_sched.specs.declared.schedule.Schedule.{Schedule}
+use Rattle.mr_step.specs.Standing.{Standing}
 use Rattle.mr_typing.specs.Walk.{faults_of}
 use Rattle.mr_input.specs.declared.refusal.Refusal.{Refusal}
 use Rattle.mr_input.specs.declared.refusal.Refusal.TheVariants as refusal
@@ -10,19 +18,29 @@ use Rattle.mr_input.specs.Answer.{IsStatus, Tells}
 use Rattle.mr_input.specs.Inputs.{holding, program_in}
 use Rattle.mr_show.specs.Seek.{Seek}
 use Rattle.mr_show.specs.declared.form.Alone.{Alone}
+use Rattle.mr_show.specs.declared.form.Part.{Part}
 use Rattle.mr_show.specs.declared.form.Range.{Range}
 use Rattle.mr_show.specs.declared.form.Saying.{Saying}
 use Rattle.mr_show.specs.declared.form.Telling.{Telling}
 use Rattle.mr_why.specs.Why.{entry_of}
 use Rattle.mr_show.specs.Answer.{bytes_answer, help_answer, file_answer, program_answer, shown_answer, text_answer}
-use Rattle.mr_show.specs.Answer.{why_answer}
+use Rattle.mr_show.specs.Answer.{part_answer, run_seen, why_answer}
 use Rattle.mr_refusals.specs.Answers.{IsStatus as IsCheckedStatus}
 use Rattle.mr_show.specs.Checked.{checked_file, checked_files}
 use Rattle.mr_show.specs.Form.{Bare, CheckedProgram, CheckedSchedule, Form, Help, Hunted, Shown, Why}
+use Rattle.mr_show.specs.Gathered.{gathered}
 use Rattle.mr_show.specs.Hunted.{hunted_file}
 use Rattle.mr_show.specs.Outcome.{over_holding}
 use Rattle.mr_show.specs.Second.{AsksForSecond, HoldsTrace}
 use Rattle.mr_show.specs.Traced.{bare_answer}
+
+-- of a run that was taken to its end, what was told of it and its footprints make what is said of a part of it
+abbrev pub IsToldAs : Part → List ℕ → Program → Schedule → List Allocation → List ToldStep → List (Option Stand)
+    → List Footprint → Result Standing RunFault → Type 0
+IsToldAs part text p w rows steps stands feet outcome =
+    IfOk outcome
+    (λ m. part_answer part (spoken_of p w) (gathered text p m.config (length w.entries) rows steps stands feet)
+    ≡ part_answer part (spoken_of p w) (run_seen part text p w))
 
 -- what is said of a program; or, where it breaks no rule, the read of the schedule failed
 abbrev pub IsOfProgram : Type 0 → Saying → List ℕ → Option (List ℕ) → Program → Result Written Refusal → Type 0

@@ -64,6 +64,7 @@ standing_seen text p config = record {
   laid = laid_in p (lexed text);
   rows = [];
   steps = [];
+  stands = [];
   count = 0;
   feet = [];
   lines = [];

@@ -20,7 +20,7 @@ use mr_answer::{lines_of, status_of};
 use mr_clocks::Analysis;
 use mr_event::{Footprint, Pair};
 use mr_input::Written;
-use mr_labels::{Allocation, Allocations, Reached, ToldStep};
+use mr_labels::{Allocation, Allocations, Reached, Stand, ToldStep};
 use mr_listing::{Shown, push_spoken, races, steps};
 use mr_picture::{order_text, picture};
 use mr_replay::rests;
@@ -33,7 +33,8 @@ use mr_wf::Checked;
 use std::alloc::{AllocError, Global};
 
 /// The text of a part of the run of the program of a text, with the status of the run. Its machine stands so behind so
-/// many steps, which made these allocations and have these footprints; and some of them tell this.
+/// many steps, which made these allocations and have these footprints; some of them tell this, and before them the
+/// threads stood so.
 pub(crate) fn laid(
     alloc: Global,
     part: Part,
@@ -44,13 +45,14 @@ pub(crate) fn laid(
     kept: &Clocked,
     rows: Vec<Allocation>,
     told: &[ToldStep],
+    stands: &[Option<Stand>],
 ) -> Result<Written, AllocError>
     requires parsed { parsed text.now ≡ Ok p.now }
     requires few { length w.now.entries ≤ 2 ^ 22 }
     requires feet { length kept.now < 2 ^ 32 }
     requires run { IsRun p.now w.now machine.now }
     ensures answer { IfOk result (λ a. written_as a ≡ part_answer part (spoken_of p.now w.now)
-        (gathered text.now p.now machine.now.config (length w.now.entries) rows.items told.now kept.now)) }
+        (gathered text.now p.now machine.now.config (length w.now.entries) rows.items told.now stands.now kept.now)) }
     ensures status { IfOk result (λ a. IsStatus a.status) }
 {
     let program = p.program();
@@ -64,6 +66,7 @@ pub(crate) fn laid(
         places: &places,
         rows: &rows,
         steps: told,
+        stands,
         count: w.entries.len(),
         feet: kept.steps(),
         lines: lines.as_slice(),

@@ -196,6 +196,7 @@ fn positions_of(
         places: &places,
         rows: &rows,
         steps: &[],
+        stands: &[],
         count: 0,
         feet: &[],
         lines: &[],

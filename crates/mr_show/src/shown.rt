@@ -1,14 +1,15 @@
 //! What is said of the run of the program in one file under the schedule in another.
-ghost use Rattle.std.specs.Prelude.{◌≡◌, ℕ, ◌+◌, ◌^◌, ◌≤◌, List, None, Some, Ok, IfOk, length};
+ghost use Rattle.std.specs.Prelude.{◌≡◌, ℕ, ◌+◌, ◌^◌, ◌<◌, ◌≤◌, List, None, Some, Ok, IfOk, OnOk, length, true};
 ghost use Rattle.mr_ast.specs.Shaped.{Shaped};
 ghost use Rattle.mr_io.specs.Counts.{Rose};
 ghost use Rattle.mr_io.specs.Files.{Contents};
 ghost use Rattle.mr_grammar.specs.Parsing.{parsed};
 ghost use Rattle.mr_input.specs.Answer.{IsStatus, Tells, TellsOrUnread, told};
 ghost use Rattle.mr_input.specs.Inputs.{IsUnreadFault, schedule_in};
-ghost use Rattle.mr_show.specs.Answer.{answer_under, between, drawn_between, first_rows, next_under, ran_answer};
-ghost use Rattle.mr_show.specs.Answer.{ran_under};
-ghost use Rattle.mr_show.specs.Answering.{IsOfFile, IsOfProgram, IsOfText};
+ghost use Rattle.mr_run.specs.Runs.{HasPlace, RunAnswer, are_of_first};
+ghost use Rattle.mr_show.specs.Answer.{answer_under, drawn_between, first_rows, next_under, ran_answer};
+ghost use Rattle.mr_show.specs.Answer.{lists_races, ran_under, told_for};
+ghost use Rattle.mr_show.specs.Answering.{IsOfFile, IsOfProgram, IsOfText, IsToldAs};
 
 use crate::filled::filled_file;
 use crate::form::{ALL, Part, Saying};
@@ -18,12 +19,13 @@ use mr_answer::refusal_of;
 use mr_ast::Program;
 use mr_input::{Refusal, Written, answered, form_answer, program_of, read_schedule, read_text};
 use mr_io::Files;
-use mr_labels::{Allocation, start_rows};
+use mr_labels::{Allocation, Stand, ToldStep, start_rows};
 use mr_picture::Span;
-use mr_replay::{Between, tell};
-use mr_run::Clocked;
+use mr_replay::{Between, stands, tell};
+use mr_run::{Clocked, Nothing, RunFault, is_of_first, run};
 use mr_sched::{Schedule, Version};
 use mr_start::start_asks;
+use mr_step::Machine;
 use mr_wf::{Checked, WfFault, well_formed};
 use std::alloc::{AllocError, Global};
 
@@ -209,14 +211,14 @@ fn drawn_between(asked: Option<Span>) -> Between
     }
 }
 
-// The steps that are told for a part: for the races all.
-fn between(part: Part) -> Between
-    ensures { result ≡ between part }
+// The steps that are told for a part: none for races and for an order.
+fn told_for(part: Part) -> Option<Between>
+    ensures { result ≡ told_for part }
 {
     match part {
-        Part::Steps { from, to } => Between { from, to },
-        Part::Races | Part::TwoOrders | Part::Order { .. } => Between { from: 0, to: ALL },
-        Part::Picture { asked } => drawn_between(asked),
+        Part::Steps { from, to } => Some(Between { from, to }),
+        Part::Races | Part::TwoOrders | Part::Order { .. } => None,
+        Part::Picture { asked } => Some(drawn_between(asked)),
     }
 }
 
@@ -243,21 +245,137 @@ fn ran(
     ensures status { IfOk result (λ a. IsStatus a.status) }
     ensures read { ¬ IsUnreadFault result }
 {
+    match told_for(part) {
+        Some(asked) => ran_told(alloc, part, asked, text, p, v, w),
+        None => ran_stands(alloc, part, text, p, v, w),
+    }
+}
+
+// The same of a part for which these steps are told.
+fn ran_told(
+    alloc: Global,
+    part: Part,
+    asked: Between,
+    text: &[u8],
+    p: &Checked,
+    v: Version,
+    w: &Schedule,
+) -> Result<Written, Refusal>
+    requires few { length w.now.entries ≤ 2 ^ 22 }
+    requires parsed { parsed text.now ≡ Ok p.now }
+    requires asked { told_for part ≡ Some asked }
+    ensures answer { Tells (ran_answer part text.now p.now v w.now) result }
+    ensures status { IfOk result (λ a. IsStatus a.status) }
+    ensures read { ¬ IsUnreadFault result }
+{
     let mut rows = first_rows(alloc, p, w.start.as_slice())?;
     let mut steps = Vec::new(alloc);
     let mut kept = Clocked::new(alloc);
-    match tell(alloc, p, w, between(part), &mut kept, &mut rows, &mut steps) {
-        Ok(machine) => answered(laid(
-            alloc,
-            part,
-            text,
-            p,
-            w,
-            &machine,
-            &kept,
-            rows,
-            steps.as_slice(),
-        )),
+    let outcome = tell(alloc, p, w, asked, &mut kept, &mut rows, &mut steps);
+    let told = steps.as_slice();
+    ended(alloc, part, text, p, v, w, outcome, &kept, rows, told, &[])
+}
+
+// The same of a part that asks where threads stood.
+fn ran_stands(
+    alloc: Global,
+    part: Part,
+    text: &[u8],
+    p: &Checked,
+    v: Version,
+    w: &Schedule,
+) -> Result<Written, Refusal>
+    requires few { length w.now.entries ≤ 2 ^ 22 }
+    requires parsed { parsed text.now ≡ Ok p.now }
+    requires asked { told_for part ≡ None }
+    ensures answer { Tells (ran_answer part text.now p.now v w.now) result }
+    ensures status { IfOk result (λ a. IsStatus a.status) }
+    ensures read { ¬ IsUnreadFault result }
+{
+    if lists_races(part) {
+        if is_of_first(w.entries.as_slice()) {
+            return ran_alone(alloc, part, text, p, v, w);
+        }
+    }
+    let mut stood = Vec::new(alloc);
+    let mut kept = Clocked::new(alloc);
+    let outcome = stands(alloc, p, w, &mut kept, &mut stood);
+    let rows = Vec::new(alloc);
+    ended(
+        alloc,
+        part,
+        text,
+        p,
+        v,
+        w,
+        outcome,
+        &kept,
+        rows,
+        &[],
+        stood.as_slice(),
+    )
+}
+
+// Whether a part tells of races alone.
+fn lists_races(part: Part) -> bool
+    ensures { result ≡ lists_races part }
+{
+    match part {
+        Part::Races | Part::TwoOrders => true,
+        Part::Steps { .. } | Part::Order { .. } | Part::Picture { .. } => false,
+    }
+}
+
+// The same of races under a schedule of thread 0 alone. One thread has no race, so that nothing is kept of its steps.
+fn ran_alone(
+    alloc: Global,
+    part: Part,
+    text: &[u8],
+    p: &Checked,
+    v: Version,
+    w: &Schedule,
+) -> Result<Written, Refusal>
+    requires few { length w.now.entries ≤ 2 ^ 22 }
+    requires parsed { parsed text.now ≡ Ok p.now }
+    requires races { lists_races part ≡ true }
+    requires alone { are_of_first w.now.entries ≡ true }
+    ensures answer { Tells (ran_answer part text.now p.now v w.now) result }
+    ensures status { IfOk result (λ a. IsStatus a.status) }
+    ensures read { ¬ IsUnreadFault result }
+{
+    let mut nothing = Nothing;
+    let outcome = run(alloc, p, w, &mut nothing);
+    let kept = Clocked::new(alloc);
+    let rows = Vec::new(alloc);
+    ended(alloc, part, text, p, v, w, outcome, &kept, rows, &[], &[])
+}
+
+// The same of a run that came to this, of which this was told.
+fn ended(
+    alloc: Global,
+    part: Part,
+    text: &[u8],
+    p: &Checked,
+    v: Version,
+    w: &Schedule,
+    outcome: Result<Machine<'_>, RunFault>,
+    kept: &Clocked,
+    rows: Vec<Allocation>,
+    told: &[ToldStep],
+    stood: &[Option<Stand>],
+) -> Result<Written, Refusal>
+    requires few { length w.now.entries ≤ 2 ^ 22 }
+    requires parsed { parsed text.now ≡ Ok p.now }
+    requires run { RunAnswer p.now w.now outcome }
+    requires place { HasPlace w.now outcome }
+    requires feet { OnOk outcome (length kept.now < 2 ^ 32) }
+    requires told { IsToldAs part text.now p.now w.now rows.items told.now stood.now kept.now outcome }
+    ensures answer { Tells (ran_answer part text.now p.now v w.now) result }
+    ensures status { IfOk result (λ a. IsStatus a.status) }
+    ensures read { ¬ IsUnreadFault result }
+{
+    match outcome {
+        Ok(machine) => answered(laid(alloc, part, text, p, w, &machine, kept, rows, told, stood)),
         Err(fault) => Err(refusal_of(v, w, fault)),
     }
 }

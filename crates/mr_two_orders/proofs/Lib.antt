@@ -1,5 +1,4 @@
 pub mod AloneLaws
 pub mod PairLaws
-pub mod Parts
 pub mod StandingLaws
 pub mod ToldLaws

@@ -28,6 +28,7 @@ fn with_races<'a>(shown: &Shown<'a>, races: &'a [Pair]) -> Shown<'a>
         places: shown.places,
         rows: shown.rows,
         steps: shown.steps,
+        stands: shown.stands,
         count: shown.count,
         feet: shown.feet,
         lines: shown.lines,
@@ -133,48 +134,37 @@ fn push_all_rust(
     out: &mut Vec<u8>,
     shown: &Shown<'_>,
     order: &Analysis,
+    sorted: &[Numbered],
     groups: &[Group],
 ) -> Result<(), OutOfMemory>
     requires tracks { Tracks order.now (seen shown.now).feet }
     requires rising { IsRising (seen shown.now).races }
+    requires sorted { AreByPlaces (seen shown.now) sorted.now }
     ensures { OnOk result (out.new.items ≡ out.old.items ++ rust_texts (seen shown.now) groups.now) }
 {
-    let sorted = by_places(alloc, shown)?;
     let told = groups.len().min(TOLD);
     let (first, rest) = groups.split_at(told);
-    push_rust_groups(alloc, out, shown, order, sorted.as_slice(), true, first)?;
-    push_rust_groups(alloc, out, shown, order, sorted.as_slice(), false, rest)
+    push_rust_groups(alloc, out, shown, order, sorted, true, first)?;
+    push_rust_groups(alloc, out, shown, order, sorted, false, rest)
 }
 
-// Appends all groups that the machine's list has alone.
-fn push_all_machine(
-    alloc: Global,
-    out: &mut Vec<u8>,
-    shown: &Shown<'_>,
-    rust: &Shown<'_>,
-    groups: &[Group],
-) -> Result<(), OutOfMemory>
-    requires rust { seen rust.now ≡ by_rust (seen shown.now) }
-    ensures { OnOk result (out.new.items
-        ≡ out.old.items ++ flat_map (machine_text (seen shown.now)) groups.now) }
-{
-    let sorted = by_places(alloc, rust)?;
-    push_machine_groups(out, shown, rust, sorted.as_slice(), groups)
-}
-
-// Appends the first line, and the groups of both lists.
+// Appends the first line, and the groups of both lists, whose races lie so by their places.
 fn push_groups(
     alloc: Global,
     out: &mut Vec<u8>,
     shown: &Shown<'_>,
     rust: &Shown<'_>,
     order: &Analysis,
+    sorted: &[Numbered],
+    rust_sorted: &[Numbered],
     rust_groups: &[Group],
     machine_groups: &[Group],
 ) -> Result<(), OutOfMemory>
     requires tracks { Tracks order.now (seen shown.now).feet }
     requires rising { IsRising (seen shown.now).races }
     requires rust { seen rust.now ≡ by_rust (seen shown.now) }
+    requires sorted { AreByPlaces (seen shown.now) sorted.now }
+    requires rust_sorted { AreByPlaces (seen rust.now) rust_sorted.now }
     ensures { OnOk result (out.new.items
         ≡ out.old.items ++ groups_text (seen shown.now) rust_groups.now machine_groups.now) }
 {
@@ -185,8 +175,8 @@ fn push_groups(
         shown.races.len(),
         machine_groups.len(),
     )?;
-    push_all_rust(alloc, out, shown, order, rust_groups)?;
-    push_all_machine(alloc, out, shown, rust, machine_groups)
+    push_all_rust(alloc, out, shown, order, sorted, rust_groups)?;
+    push_machine_groups(out, shown, rust, rust_sorted, machine_groups)
 }
 
 /// The text of the races of a run by two orders: the machine's, whose races are shown, and Rust's, whose races these
@@ -203,8 +193,10 @@ pub fn two_orders(
     ensures { IfOk result (λ text. text.items ≡ two_orders_text (seen shown.now)) }
 {
     let listed = with_races(shown, rust);
-    let rust_groups = ranked(alloc, &listed)?;
-    let machine_groups = ranked(alloc, shown)?;
+    let rust_sorted = by_places(alloc, &listed)?;
+    let sorted = by_places(alloc, shown)?;
+    let rust_groups = ranked(alloc, &listed, rust_sorted.as_slice())?;
+    let machine_groups = ranked(alloc, shown, sorted.as_slice())?;
     let mut out = Vec::new(alloc);
     push_groups(
         alloc,
@@ -212,6 +204,8 @@ pub fn two_orders(
         shown,
         &listed,
         order,
+        sorted.as_slice(),
+        rust_sorted.as_slice(),
         rust_groups.as_slice(),
         machine_groups.as_slice(),
     )?;

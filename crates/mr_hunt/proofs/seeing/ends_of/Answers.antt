@@ -2,7 +2,8 @@ use Rattle.std.proofs.Common.{◌≤◌, ◌^◌, ◌∙◌, ◌++◌, ◌∷◌
 use Rattle.mr_sched.specs.declared.schedule.Schedule.{Schedule}
 use Rattle.mr_hunt.specs.declared.ends.End.{End}
 use Rattle.mr_hunt.specs.declared.ends.End.TheVariants as shown
-use Rattle.mr_hunt.specs.Ends.{race_at, run_told}
+use Rattle.mr_replay.specs.Stands.{stands_of}
+use Rattle.mr_hunt.specs.Ends.{race_at}
 use Rattle.mr_hunt.proofs.RunFaults.{drawn_few}
 use Rattle.mr_hunt.proofs.SeenLaws.{ends_are}
 use Rattle.mr_hunt.proofs.seeing.ends_of.Goals as goal
@@ -21,7 +22,7 @@ returns c =
     let w = c.in_ok-drawn.drawn.schedule in
     let p = c.args.p.now in
     c.in_ok-push_races.ensures
-    ∙ ap (λ (xs : List End). xs ++ map (race_at (run_told p w)) c.races.result.now)
+    ∙ ap (λ (xs : List End). xs ++ map (race_at (stands_of p w)) c.races.result.now)
     (c.in_ok-push.ensures.items ∙ ap (λ (xs : List End). xs ++ shown.Verdict c.verdict.result ∷ []) c.new-ends.ensures.items)
     ∙ ends_are p c.args.number c.args.most w c.in_ok-drawn.drawn.machine c.in_ok-drawn.ensures.schedule
     c.in_ok-drawn.ensures.run c.verdict.result c.draw.new.kept c.races.result.now c.verdict.ensures

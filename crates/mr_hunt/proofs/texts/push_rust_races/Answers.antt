@@ -8,7 +8,7 @@ use Rattle.mr_hunt.proofs.texts.push_rust_races.Goals as goal
 pub returns : goal.returns
 returns c =
     let join : List ℕ → List ℕ → List ℕ = λ xs ys. xs ++ ys in
-    let by = by_places c.args.text.now c.args.p.now c.args.places.now c.args.steps.now in
+    let by = by_places c.args.text.now c.args.p.now c.args.places.now c.args.stands.now in
     let old = c.args.out.now.items in
     let head = codes "by Rust's order:" in
     let lines = by (rust_races c.args.run.now) in

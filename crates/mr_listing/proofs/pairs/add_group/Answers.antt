@@ -1,7 +1,12 @@
 use Rattle.std.proofs.Common.{◌∙◌, refl, sym}
 use Rattle.mr_listing.specs.Seen.{seen}
-use Rattle.mr_listing.proofs.AlikeLaws.{none_added, one_added}
+use Rattle.mr_listing.proofs.AlikeLaws.{none_added, none_begun, one_added}
 use Rattle.mr_listing.proofs.pairs.add_group.Goals as goal
+
+pub returns-then-follows_alike : goal.returns-then-follows_alike
+returns-then-follows_alike c =
+    none_begun (seen c.args.shown.now) c.args.pair c.args.number (c.follows_alike.ensures c.if-follows_alike.true)
+    c.args.groups.now.items
 
 pub returns-then-begins_before : goal.returns-then-begins_before
 returns-then-begins_before c =

@@ -8,6 +8,7 @@ use Rattle.mr_step.specs.Standing.{Standing}
 use Rattle.mr_labels.specs.Table.{step_rows}
 use Rattle.mr_replay.specs.declared.telling.Before.{Before}
 use Rattle.mr_replay.specs.Told.{if_between, told_between}
+use Rattle.mr_replay.proofs.ToldLaws.{where_ok}
 use Rattle.mr_replay.proofs.telling.made_step.Goals as goal
 
 -- a step that was made is answered so, unless memory ran out behind it
@@ -16,11 +17,7 @@ answered : (e : Entry) (old new : Standing) (r : Result (Unit {0}) StepFault) �
 answered e old new (Ok u) made memory = made
 answered e old new (Err f) made memory = subst (λ (x : StepFault). EntryAnswer e old new (Err x)) (sym memory) tt
 
--- what holds, and what follows, where nothing failed
-where_ok : {X : Type 0} (r : Result (Unit {0}) StepFault) → X → OnOk r X
-where_ok (Ok u) x = x
-where_ok (Err f) x = tt
-
+-- what follows, where nothing failed
 follows_ok : {X Y : Type 0} (r : Result (Unit {0}) StepFault) → OnOk r X → (X → Y) → OnOk r Y
 follows_ok (Ok u) x f = f x
 follows_ok (Err e) x f = tt

@@ -32,7 +32,7 @@ pub overflow_add-place : goal.overflow_add-place
 overflow_add-place g c = omega (arith, c.loop-entry.invariant.2.place, c.loop-entry-test.true, c.requires.few)
 
 pub overflow_add-number : goal.overflow_add-number
-overflow_add-number g c = omega (arith, c.loop-entry.invariant.3.counted, c.loop-entry-test.true, c.requires.few)
+overflow_add-number g c = omega (arith, c.loop-entry.invariant.3.way.counted, c.loop-entry-test.true, c.requires.few)
 
 pub loop-entry-preserved : goal.loop-entry-preserved
 loop-entry-preserved g c =

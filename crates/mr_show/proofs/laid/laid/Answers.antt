@@ -40,6 +40,7 @@ returns-clause-answer c =
       laid = c.in_ok-places.places;
       rows = c.in_ok-rows.rows;
       steps = told;
+      stands = c.args.stands.now;
       count = c.len.result;
       feet = c.steps.result.now;
       lines = c.as_slice.result.now;
@@ -48,13 +49,14 @@ returns-clause-answer c =
       rests = c.as_slice-2.result.now;
     } in
     let there : Seen =
-    gathered text c.args.p.now c.args.machine.now.config count c.args.rows.items told c.args.kept.now in
+    gathered text c.args.p.now c.args.machine.now.config count c.args.rows.items told c.args.stands.now c.args.kept.now in
     let same : here ≡ there = (λ i. record {
       text = text;
       program = c.program-program.ensures.same i;
       laid = c.in_ok-places.ensures i;
       rows = c.in_ok-rows.ensures i;
       steps = told;
+      stands = c.args.stands.now;
       count = c.len.ensures i;
       feet = c.steps.ensures i;
       lines = lines i;

@@ -22,8 +22,8 @@ returns c =
     let s = seen c.args.shown.now in
     let listed : seen c.with_races-listed.result ≡ by_rust s =
     c.with_races-listed.ensures ∙ ap (λ (pairs : List Pair). record s { races = pairs }) c.requires.rust in
-    let rust = c.as_slice.ensures.value ∙ c.in_ok-rust_groups.ensures ∙ ap ranked listed in
-    let machine = c.as_slice-2.ensures.value ∙ c.in_ok-machine_groups.ensures in
+    let rust = c.as_slice-5.ensures.value ∙ c.in_ok-rust_groups.ensures ∙ ap ranked listed in
+    let machine = c.as_slice-6.ensures.value ∙ c.in_ok-machine_groups.ensures in
     c.in_ok-push_groups.ensures
-    ∙ ap (λ (xs : List ℕ). xs ++ groups_text s c.as_slice.result.now c.as_slice-2.result.now) c.new-out.ensures.items
+    ∙ ap (λ (xs : List ℕ). xs ++ groups_text s c.as_slice-5.result.now c.as_slice-6.result.now) c.new-out.ensures.items
     ∙ ap₂ (λ (xs ys : List Group). groups_text s xs ys) rust machine

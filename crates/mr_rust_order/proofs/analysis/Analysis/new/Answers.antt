@@ -12,7 +12,7 @@ returns c = λ run.
       threads = channels_none run to_thread c.new.result.items c.new.ensures.items;
       locks = channels_none run to_lock c.new-2.result.items c.new-2.ensures.items;
       ended = channels_none run to_joiners c.new-3.result.items c.new-3.ensures.items;
-      rows = rows_none run c.new-6.result.items c.new-6.ensures.items;
-      memos = subst (λ (l : List Row). AreMemos l c.in_ok-memos.memos.items) (sym c.new-6.ensures.items) c.in_ok-memos.ensures;
-      marked = λ x lt. absurd (let none = ap length c.new-6.ensures.items in omega (arith, lt, none));
+      rows = rows_none run c.new-7.result.items c.new-7.ensures.items;
+      memos = subst (λ (l : List Row). AreMemos l c.in_ok-memos.memos.items) (sym c.new-7.ensures.items) c.in_ok-memos.ensures;
+      marked = λ x lt. absurd (let none = ap length c.new-7.ensures.items in omega (arith, lt, none));
     }

@@ -1,10 +1,10 @@
 use Rattle.std.proofs.Common.{◌-◌, ◌^◌, refl, arith}
 use Rattle.mr_rust_order.specs.Marks.{mark_of}
 use Rattle.mr_rust_order.proofs.MarkLaws.{low_mark, low_read}
-use Rattle.mr_rust_order.proofs.index.row_for.Goals as goal
+use Rattle.mr_rust_order.proofs.taking.first_row.Goals as goal
 
 pub range-mark-items-requires : goal.range-mark-items-requires
 range-mark-items-requires c =
-    let low = mark_of c.args.shelf c.args.range.addr c.args.thread 0 in
-    let high = mark_of c.args.shelf c.args.range.addr c.args.thread (2 ^ 64 - 1) in
+    let low = mark_of c.args.shelf c.args.range.addr 0 0 in
+    let high = mark_of c.args.shelf c.args.range.addr (2 ^ 32 - 1) (2 ^ 64 - 1) in
     low_read c.new.result.start c.new.result.end low high c.new.ensures.start c.new.ensures.end (low_mark low high refl (omega arith) (omega arith) (omega arith))

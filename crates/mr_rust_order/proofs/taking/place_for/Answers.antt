@@ -2,7 +2,7 @@ use Rattle.std.proofs.Common.{List, inl, inr, refl, subst, sym}
 use Rattle.mr_rust_order.specs.declared.index.Shelf.{Shelf}
 use Rattle.mr_rust_order.specs.Marks.{AreKept}
 use Rattle.mr_rust_order.proofs.MarkLaws.{all_kept}
-use Rattle.mr_rust_order.proofs.index.place_for.Goals as goal
+use Rattle.mr_rust_order.proofs.taking.place_for.Goals as goal
 
 pub returns-in-Some-clause-place : goal.returns-in-Some-clause-place
 returns-in-Some-clause-place c = inl c.in-Some.ensures

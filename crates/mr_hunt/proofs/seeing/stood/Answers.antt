@@ -1,5 +1,5 @@
 use Rattle.mr_hunt.proofs.RunFaults.{never_broken}
-use Rattle.mr_hunt.proofs.seeing.told.Goals as goal
+use Rattle.mr_hunt.proofs.seeing.stood.Goals as goal
 
 pub unreachable-requires : goal.unreachable-requires
 unreachable-requires c =

@@ -1,0 +1,25 @@
+use Rattle.mr_answer.proofs.RunLaws.{refused_read}
+use Rattle.mr_replay.specs.Spoken.{spoken_of}
+use Rattle.std.specs.Prelude.{length}
+use Rattle.mr_show.specs.Answer.{part_answer}
+use Rattle.mr_show.specs.Gathered.{gathered}
+use Rattle.mr_show.proofs.ShownLaws.{told_broken, told_run}
+use Rattle.mr_show.proofs.shown.ended.Goals as goal
+
+pub returns-in-Ok-clause-answer : goal.returns-in-Ok-clause-answer
+returns-in-Ok-clause-answer c =
+    let p = c.args.p.now in
+    let w = c.args.w.now in
+    let a = part_answer c.args.part (spoken_of p w)
+    (gathered c.args.text.now p c.in-Ok.machine.config (length w.entries) c.args.rows.items c.args.told.now
+    c.args.stood.now c.args.kept.now) in
+    told_run c.args.part c.args.text.now p c.args.v w c.in-Ok.machine a c.answered.result c.requires.run c.requires.told
+    (c.answered.ensures.answer a c.laid.ensures.answer)
+
+pub returns-in-Err-clause-answer : goal.returns-in-Err-clause-answer
+returns-in-Err-clause-answer c =
+    rw c.refusal_of.ensures
+    (told_broken c.args.part c.args.text.now c.args.p.now c.args.v c.args.w.now c.in-Err.fault c.requires.run)
+
+pub returns-in-Err-clause-read : goal.returns-in-Err-clause-read
+returns-in-Err-clause-read c = rw c.refusal_of.ensures (refused_read c.args.v c.args.w.now c.in-Err.fault)
