@@ -31,8 +31,8 @@ use Rattle.mr_labels.specs.declared.step.ToldStep.{ToldStep}
 use Rattle.mr_show.specs.declared.form.Part.{Part}
 use Rattle.mr_show.specs.declared.form.Saying.{Saying}
 use Rattle.mr_replay.specs.Spoken.{spoken_of}
-use Rattle.mr_show.specs.Answer.{answer_under, file_answer, part_answer, part_steps}
-use Rattle.mr_show.specs.Answer.{program_answer, ran_answer, run_rows, run_seen}
+use Rattle.mr_show.specs.Answer.{answer_under, file_answer, part_answer, part_steps, part_values}
+use Rattle.mr_show.specs.Answer.{program_answer, ran_answer, run_rows, run_seen, told_values}
 use Rattle.mr_show.specs.Gathered.{gathered, lexemes_in}
 use Rattle.mr_show.specs.Answering.{IsOfFile, IsOfProgram, IsOfText, IsScheduleUnread}
 
@@ -44,27 +44,33 @@ module _ (part : Part) (text : List ℕ) (p : Program) (v : Version) (w : Schedu
   pub told_run : (m : Standing) (count : ℕ) (rows : List Allocation) (steps : List ToldStep) (feet : List Footprint)
       → (result : Result Written Refusal) → IsRun p w m → count ≡ length w.entries → rows ≡ run_rows p w
       → steps ≡ part_steps part p w → feet ≡ steps_of p w
-      → Tells (part_answer part (spoken_of p w) (gathered text p m.config count rows steps feet)) result
+      → Tells (part_answer part (spoken_of p w) (part_values part p w rows feet)
+      (gathered text p m.config count rows steps feet)) result
       → Tells (ran_answer part text p v w) result
   told_run m count rows steps feet result run all made tell are tells =
       subst (λ (a : Answer). Tells a result) (whole ∙ sym legal) tells
     where
-      legal : ran_answer part text p v w ≡ part_answer part (spoken_of p w) (run_seen part text p w)
+      legal : ran_answer part text p v w
+          ≡ part_answer part (spoken_of p w) (told_values part p w) (run_seen part text p w)
       legal =
           ap (λ (f : Option PlacedFault).
-          told (part_answer part (spoken_of p w)) (unless_broken v w f (run_seen part text p w)))
+          told (part_answer part (spoken_of p w) (told_values part p w))
+          (unless_broken v w f (run_seen part text p w)))
           (no_schedule_fault p w run.legal)
 
-      whole : part_answer part (spoken_of p w) (gathered text p m.config count rows steps feet)
-          ≡ part_answer part (spoken_of p w) (run_seen part text p w)
+      whole : part_answer part (spoken_of p w) (part_values part p w rows feet)
+          (gathered text p m.config count rows steps feet)
+          ≡ part_answer part (spoken_of p w) (told_values part p w) (run_seen part text p w)
       whole =
-          (λ i. part_answer part (spoken_of p w) (gathered text p (run.config i) (all i) (made i) (tell i) (are i)))
+          (λ i. part_answer part (spoken_of p w) (part_values part p w (made i) (are i))
+          (gathered text p (run.config i) (all i) (made i) (tell i) (are i)))
 
   -- and the first rule that the schedule breaks, on its line
   pub told_broken : (f : RunFault) → IsFirstFault p w f → Tells (ran_answer part text p v w) (Err (refusal_by v w f))
   told_broken (Broken place code earlier) h =
       ap (λ (o : Option PlacedFault).
-      told (part_answer part (spoken_of p w)) (unless_broken v w o (run_seen part text p w))) h
+      told (part_answer part (spoken_of p w) (told_values part p w))
+      (unless_broken v w o (run_seen part text p w))) h
   told_broken Memory h = tt
 
 -- ---- the text

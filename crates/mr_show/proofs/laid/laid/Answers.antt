@@ -1,4 +1,4 @@
-use Rattle.std.proofs.Common.{◌≡◌, ◌<◌, ◌^◌, ◌∙◌, List, ap, arith, length, subst, sym}
+use Rattle.std.proofs.Common.{◌≡◌, ◌<◌, ◌^◌, ◌∙◌, List, ap, ap₂, arith, length, subst, sym}
 use Rattle.std.specs.Prelude.{IfOk, Option}
 use Rattle.mr_clocks.specs.Tracked.{Tracks}
 use Rattle.mr_event.specs.Footprint.{Footprint}
@@ -7,11 +7,15 @@ use Rattle.mr_plan.specs.Runs.{Config}
 use Rattle.mr_start.specs.ThreadSteps.{Own}
 use Rattle.mr_input.specs.declared.written.Written.{Written}
 use Rattle.mr_input.specs.Answer.{Answer, seen as written_as}
+use Rattle.mr_listing.specs.declared.held.StepValues.{StepValues}
 use Rattle.mr_listing.specs.Seen.{Seen}
 use Rattle.mr_base.specs.declared.reached.Reached.{Reached}
-use Rattle.mr_show.specs.Answer.{part_answer}
+use Rattle.mr_show.specs.Answer.{part_answer, part_values}
 use Rattle.mr_show.specs.Gathered.{gathered}
 use Rattle.mr_show.proofs.laid.laid.Goals as goal
+
+pub values_of-requires-clause-legal : goal.values_of-requires-clause-legal
+values_of-requires-clause-legal c = c.requires.run.legal
 
 pub written-requires-clause-count : goal.written-requires-clause-count
 written-requires-clause-count c = omega (arith, c.len.ensures, c.requires.few)
@@ -64,8 +68,13 @@ returns-clause-answer c =
     }) in
     let part = c.args.part in
     let spoken : Option Reached = c.about.result in
-    let laid : IfOk c.written.result (λ (a : Written). written_as a ≡ part_answer part spoken there) =
-    subst (λ (s : Seen). IfOk c.written.result (λ (a : Written). written_as a ≡ part_answer part spoken s)) same
-    c.written.ensures.answer in
-    subst (λ (x : Option Reached). IfOk c.written.result (λ (a : Written). written_as a ≡ part_answer part x there))
-    (c.about.ensures ∙ ap (λ (x : Config Own). x.about) c.requires.run.config) laid
+    let values =
+    c.as_slice-3.ensures.value ∙ c.in_ok-values.ensures
+    ∙ ap₂ (part_values part c.args.p.now c.args.w.now) c.in_ok-rows.ensures c.steps.ensures in
+    let answer : Option Reached → List StepValues → Seen → Type 0 = λ x vs s.
+    IfOk c.written.result (λ (a : Written). written_as a ≡ part_answer part x vs s) in
+    let laid = subst (answer spoken c.as_slice-3.result.now) same c.written.ensures.answer in
+    let valued = subst (λ (vs : List StepValues). answer spoken vs there) values laid in
+    subst (λ (x : Option Reached).
+    answer x (part_values part c.args.p.now c.args.w.now c.args.rows.items c.args.kept.now) there)
+    (c.about.ensures ∙ ap (λ (x : Config Own). x.about) c.requires.run.config) valued

@@ -9,7 +9,7 @@ use Rattle.mr_replay.specs.declared.telling.Between.{Between}
 use Rattle.mr_replay.specs.Told.{if_between, told_steps}
 use Rattle.mr_answer.proofs.RunLaws.{refused_read}
 use Rattle.mr_replay.specs.Spoken.{spoken_of}
-use Rattle.mr_show.specs.Answer.{first_rows, part_answer}
+use Rattle.mr_show.specs.Answer.{first_rows, part_answer, part_values}
 use Rattle.mr_show.specs.Gathered.{gathered}
 use Rattle.mr_show.proofs.ShownLaws.{told_broken, told_run}
 use Rattle.mr_show.proofs.shown.ran.Goals as goal
@@ -30,6 +30,7 @@ returns-in-Ok-clause-answer c =
     c.in-Ok.ensures.kept
     (c.answered.ensures.answer
     (part_answer c.args.part (spoken_of p w)
+    (part_values c.args.part p w c.tell.new.rows.items c.tell.new.kept)
     (gathered c.args.text.now p c.in-Ok.machine.config (length w.entries) c.tell.new.rows.items
     c.as_slice-in-Ok.result.now c.tell.new.kept))
     c.laid.ensures.answer)
