@@ -8,6 +8,7 @@ use Rattle.mr_base.specs.declared.thread.Status.TheVariants.{Enabled, OnJoin, On
 use Rattle.mr_labels.specs.declared.step.ToldStep.{ToldStep}
 use Rattle.mr_labels.specs.declared.step.Stand.{Stand}
 use Rattle.mr_listing.specs.declared.held.Held.TheVariants as held
+use Rattle.mr_listing.specs.declared.held.StepValues.{StepValues}
 use Rattle.mr_listing.specs.Accesses.{bytes_text, value_text}
 use Rattle.mr_listing.specs.Held.{held_for}
 use Rattle.mr_listing.specs.Seen.{Seen}
@@ -110,12 +111,16 @@ unfolding digits
 address_told s here = refl
 
 -- an atomic addition of 2 to 5: its load is told 5, and its store 7
-loaded : held_for (Some (record { before = held.Number 5 ∷ held.Number 5 ∷ []; behind = held.Number 7 ∷ held.Number 7 ∷ [] }))
-    0 (record { store = false; atomic = true; addr = 64; len = 4 }) ≡ held.Number 5
+abbrev added : StepValues
+added = record {
+  before = held.Number 5 ∷ held.Number 5 ∷ [];
+  behind = held.Number 7 ∷ held.Number 7 ∷ [];
+}
+
+loaded : held_for (Some added) 0 (record { store = false; atomic = true; addr = 64; len = 4 }) ≡ held.Number 5
 loaded = refl
 
-stored : held_for (Some (record { before = held.Number 5 ∷ held.Number 5 ∷ []; behind = held.Number 7 ∷ held.Number 7 ∷ [] }))
-    1 (record { store = true; atomic = true; addr = 64; len = 4 }) ≡ held.Number 7
+stored : held_for (Some added) 1 (record { store = true; atomic = true; addr = 64; len = 4 }) ≡ held.Number 7
 stored = refl
 
 -- ---- races: steps are counted from 1

@@ -131,8 +131,8 @@ fn written(
     })
 }
 
-// The text of the steps that are told, with these values, and behind it the reason for which the run is undefined, where
-// it is, with what it speaks of.
+// The text of the steps that are told, with these values, and behind it the reason for which the run is undefined,
+// where it is, with what it speaks of.
 fn steps_of(
     alloc: Global,
     spoken: Option<Reached>,

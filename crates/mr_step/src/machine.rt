@@ -279,7 +279,8 @@ impl<'p> Machine<'p> {
         }
     }
 
-    /// Lends the bytes from a pointer on, where all of them lie in its live allocation; None behind a step that itself stopped.
+    /// Lends the bytes from a pointer on, where all of them lie in its live allocation; None behind a step that itself
+    /// stopped.
     pub fn bytes(&self, p: Pointer, len: u64) -> Option<View<'_>>
         ensures there { (s : State Own) → self.now.config.state ≡ Some s
             → option_map bytes_of_pieces result ≡ bytes_from s.shared.memory p len }

@@ -1,6 +1,6 @@
 -- Entries that are taken one after another, and the values of their steps.
-use Rattle.std.proofs.Common.{◌≡◌, ℕ, zero, suc, ◌+◌, ◌<◌, ◌≤◌, ◌∙◌, ap, ap₂, sym, subst, refl, arith, false, List, [], ◌∷◌}
-use Rattle.std.proofs.Common.{◌++◌, get_or, length, map, take}
+use Rattle.std.proofs.Common.{◌≡◌, ℕ, zero, suc, ◌+◌, ◌<◌, ◌≤◌, ◌∙◌, ap, ap₂, sym, subst, refl, arith, false, List, []}
+use Rattle.std.proofs.Common.{◌∷◌, ◌++◌, get_or, length, map, take}
 use Rattle.std.proofs.lemmas.List.{take_more}
 use Rattle.std.proofs.lemmas.Option.{slice_get_read}
 use Rattle.std.specs.Prelude.{None, Some, slice_get}

@@ -50,8 +50,8 @@ held_at rows c a = held_found c a (found_at a.addr rows)
 
 -- ---- one step
 
--- THE VALUES OF A STEP with these accesses, which leads from one to the other: what their bytes hold before it and behind
--- it
+-- THE VALUES OF A STEP with these accesses, which leads from one to the other: what their bytes hold before it and
+-- behind it
 abbrev pub values_between : List Allocation → List Access → Config Own → Config Own → StepValues
 values_between rows accesses before behind = record {
   before = map (held_at rows before) accesses;
@@ -75,8 +75,8 @@ values_at look c es rows feet part number =
 
 -- ---- the run
 
--- THE VALUES OF THE STEPS OF A RUN, which has these allocations and footprints: of each entry, and of those that are not
--- of the part of no access
+-- THE VALUES OF THE STEPS OF A RUN, which has these allocations and footprints: those of each entry; of one that is not
+-- of the part none is told
 unfoldable pub run_values : Program → Schedule → List Allocation → List Footprint → Between → List StepValues
 run_values p w rows feet part =
     map (values_at (look_of p w.start) (start_config p w.start) w.entries rows feet part)
