@@ -147,9 +147,9 @@ fn push_stop(out: &mut Vec<u8>, steps: usize, completed: usize) -> Result<(), Ou
     out.extend_from_slice(b" ended the run\n")
 }
 
-/// The text of the steps that are told, with what they loaded and stored, which stands at the number of each; behind them
-/// the verdict, how many races there are, how the threads stand where no step stopped the run, and which blocks a leak
-/// has left. An `Err` is for want of memory.
+/// The text of the steps that are told, with what they loaded and stored, which stands at the number of each; behind
+/// them the verdict, how many races there are, how the threads stand where no step stopped the run, and which blocks
+/// a leak has left. An `Err` is for want of memory.
 pub fn steps(
     alloc: Global,
     shown: &Shown<'_>,
