@@ -45,15 +45,16 @@ module _ (rows : List Allocation) (feet : List Footprint) (part : Between) where
     pub completed : m.config.completed ≤ first.config.completed + index
     pub told : values ≡ map (values_at first.look first.config es rows feet part) (range_with_len 0 index)
 
-  pub sets_out : (first : Standing) (es : List Entry) → first.failed ≡ false → IsSoFar first first [] 0 0 es
-  sets_out first es working = record {
+  pub sets_out : (first : Standing) (es : List Entry) (values : List StepValues) → values ≡ [] → first.failed ≡ false
+      → IsSoFar first first values 0 0 es
+  sets_out first es values none working = record {
     counted = refl;
     within = omega arith;
     working = working;
     look = refl;
     here = refl;
     completed = omega arith;
-    told = refl;
+    told = none;
   }
 
   module _ (first m : Standing) (values : List StepValues) (number index : ℕ) (es : List Entry)

@@ -7,7 +7,8 @@ use Rattle.mr_values.proofs.running.entries_values.Goals as goal
 
 pub loop-entry-init : goal.loop-entry-init
 loop-entry-init c =
-    sets_out c.args.rows.now c.args.feet.now c.args.part c.args.machine.now c.args.entries.now c.requires.working
+    sets_out c.args.rows.now c.args.feet.now c.args.part c.args.machine.now c.args.entries.now c.new-values.result.items
+    c.new-values.ensures.items c.requires.working
 
 pub step_values-requires-clause-working : goal.step_values-requires-clause-working
 step_values-requires-clause-working c = c.loop-entry.invariant.working
