@@ -26,5 +26,5 @@ returns c =
     ∙ ap (λ (ls : List Line). c.push_head.new.out.items ++ flat_map print_line ls) c.printed_by.ensures))
     (c.in_ok-push_foot.ensures
     ∙ ap₂ (λ (v : Option StepValues) (o : Option Footprint). c.push_prints.new.out.items ++ foot_text s v told o)
-    c.values_at.ensures c.foot_at.ensures))
+    c.values_at-held.ensures c.foot_at.ensures))
     c.push_partners.ensures

@@ -22,14 +22,14 @@ written-requires-clause-count c = omega (arith, c.len.ensures, c.requires.few)
 
 pub written-requires-clause-feet : goal.written-requires-clause-feet
 written-requires-clause-feet c =
-    subst (λ (feet : List Footprint). length feet < 2 ^ 32) (sym c.steps.ensures) c.requires.feet
+    subst (λ (feet : List Footprint). length feet < 2 ^ 32) (sym c.steps-feet.ensures) c.requires.feet
 
 pub written-requires-clause-tracks : goal.written-requires-clause-tracks
 written-requires-clause-tracks c =
-    subst (λ (feet : List Footprint). Tracks c.order.result.now feet) (sym c.steps.ensures) c.order.ensures
+    subst (λ (feet : List Footprint). Tracks c.order.result.now feet) (sym c.steps-feet.ensures) c.order.ensures
 
 pub written-requires-clause-races : goal.written-requires-clause-races
-written-requires-clause-races c = c.races.ensures ∙ ap predicted (sym c.steps.ensures)
+written-requires-clause-races c = c.races.ensures ∙ ap predicted (sym c.steps-feet.ensures)
 
 pub returns-clause-answer : goal.returns-clause-answer
 returns-clause-answer c =
@@ -45,7 +45,7 @@ returns-clause-answer c =
       rows = c.in_ok-rows.rows;
       steps = told;
       count = c.len.result;
-      feet = c.steps.result.now;
+      feet = c.steps-feet.result.now;
       lines = c.as_slice.result.now;
       races = c.races.result.now;
       verdict = c.verdict.result;
@@ -60,7 +60,7 @@ returns-clause-answer c =
       rows = c.in_ok-rows.ensures i;
       steps = told;
       count = c.len.ensures i;
-      feet = c.steps.ensures i;
+      feet = c.steps-feet.ensures i;
       lines = lines i;
       races = c.races.ensures i;
       verdict = c.verdict.ensures i;
@@ -70,7 +70,7 @@ returns-clause-answer c =
     let spoken : Option Reached = c.about.result in
     let values =
     c.as_slice-3.ensures.value ∙ c.in_ok-values.ensures
-    ∙ ap₂ (part_values part c.args.p.now c.args.w.now) c.in_ok-rows.ensures c.steps.ensures in
+    ∙ ap₂ (part_values part c.args.p.now c.args.w.now) c.in_ok-rows.ensures c.steps-feet.ensures in
     let answer : Option Reached → List StepValues → Seen → Type 0 = λ x vs s.
     IfOk c.written.result (λ (a : Written). written_as a ≡ part_answer part x vs s) in
     let laid = subst (answer spoken c.as_slice-3.result.now) same c.written.ensures.answer in

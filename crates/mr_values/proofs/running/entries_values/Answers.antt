@@ -36,7 +36,7 @@ loop-entry-preserved c =
     c.entry-item.result c.loop-entry-test.true c.entry-item.is c.step_values.new.machine c.in_ok-held.held
     c.push.new.self.items c.in_ok-held.ensures.made
     (c.in_ok-held.ensures.values
-    ∙ ap (λ (xs : List Access). values_between c.args.rows.now xs m.config next) c.accesses_at.ensures)
+    ∙ ap (λ (xs : List Access). values_between c.args.rows.now xs m.config next) c.accesses_at-accesses.ensures)
     c.in_ok-push.ensures.items
 
 pub returns : goal.returns
