@@ -34,19 +34,20 @@ legal_at step c (x ∷ es) zero e legal there =
     let same : x ≡ e = cc in subst (λ (y : Entry). entry_fault step c y ≡ None) same legal.0
 legal_at step c (x ∷ es) (suc i) e legal there = legal_at step (machine_step step c x) es i e legal.1 there
 
-module _ (rows : List Allocation) (feet : List Footprint) (part : Between) where
-  -- What stays true: the machine stands where the entries so far lead, and their values are told.
-  pub record IsSoFar (first m : Standing) (values : List StepValues) (number index : ℕ) (es : List Entry) : Type 0 where
-    pub counted : number ≡ index
-    pub within : index ≤ length es
-    pub working : m.failed ≡ false
-    pub look : m.look ≡ first.look
-    pub here : m.config ≡ after (thread_step first.look) first.config (take index es)
-    pub completed : m.config.completed ≤ first.config.completed + index
-    pub told : values ≡ map (values_at first.look first.config es rows feet part) (range_with_len 0 index)
+-- What stays true: the machine stands where the entries so far lead, and their values are told.
+pub record IsSoFar (rows : List Allocation) (feet : List Footprint) (part : Between) (first m : Standing)
+    (values : List StepValues) (number index : ℕ) (es : List Entry) : Type 0 where
+  pub counted : number ≡ index
+  pub within : index ≤ length es
+  pub working : m.failed ≡ false
+  pub look : m.look ≡ first.look
+  pub here : m.config ≡ after (thread_step first.look) first.config (take index es)
+  pub completed : m.config.completed ≤ first.config.completed + index
+  pub told : values ≡ map (values_at first.look first.config es rows feet part) (range_with_len 0 index)
 
+module _ (rows : List Allocation) (feet : List Footprint) (part : Between) where
   pub sets_out : (first : Standing) (es : List Entry) (values : List StepValues) → values ≡ [] → first.failed ≡ false
-      → IsSoFar first first values 0 0 es
+      → IsSoFar rows feet part first first values 0 0 es
   sets_out first es values none working = record {
     counted = refl;
     within = omega arith;
@@ -58,7 +59,7 @@ module _ (rows : List Allocation) (feet : List Footprint) (part : Between) where
   }
 
   module _ (first m : Standing) (values : List StepValues) (number index : ℕ) (es : List Entry)
-      (h : IsSoFar first m values number index es) where
+      (h : IsSoFar rows feet part first m values number index es) where
     -- nothing is left
     pub all_told : length es ≤ index
         → values ≡ map (values_at first.look first.config es rows feet part) (range_with_len 0 (length es))
@@ -90,7 +91,7 @@ module _ (rows : List Allocation) (feet : List Footprint) (part : Between) where
       -- its step is made, and has these values
       pub one_more : (new : Standing) (held : StepValues) (next : List StepValues) → IsMade e m new
           → held ≡ values_between rows (accesses_at part feet number) m.config (program_step m.look m.config e)
-          → next ≡ values ++ held ∷ [] → IsSoFar first new next (number + 1) (index + 1) es
+          → next ≡ values ++ held ∷ [] → IsSoFar rows feet part first new next (number + 1) (index + 1) es
       one_more new held next k found pushed =
           let at : new.config ≡ program_step m.look m.config e = ap (λ (s : Standing). s.config) k.after in
           let told : held ≡ values_at first.look first.config es rows feet part index =
