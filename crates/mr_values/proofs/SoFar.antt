@@ -94,8 +94,9 @@ module _ (rows : List Allocation) (feet : List Footprint) (part : Between) where
           → next ≡ values ++ held ∷ [] → IsSoFar rows feet part first new next (number + 1) (index + 1) es
       one_more new held next k found pushed =
           let at : new.config ≡ program_step m.look m.config e = ap (λ (s : Standing). s.config) k.after in
-          let told : held ≡ values_at first.look first.config es rows feet part index =
-          found ∙ (λ i. values_between rows (accesses_at part feet (h.counted i)) (h.here i) (stepped i)) in
+          let same : values_between rows (accesses_at part feet number) m.config (program_step m.look m.config e)
+          ≡ values_at first.look first.config es rows feet part index =
+          (λ i. values_between rows (accesses_at part feet (h.counted i)) (h.here i) (stepped i)) in
           record {
             counted = (let so_far = h.counted in omega arith);
             within = omega arith;
@@ -105,10 +106,10 @@ module _ (rows : List Allocation) (feet : List Footprint) (part : Between) where
             completed =
                 (let so_far = h.completed in
                 let one = completed_by_step (thread_step m.look) m.config e in
-                let same = ap (λ (c : Config Own). c.completed) at in
-                omega (arith, so_far, one, same));
+                let led = ap (λ (c : Config Own). c.completed) at in
+                omega (arith, so_far, one, led));
             told =
-                pushed ∙ ap (λ (v : StepValues). values ++ v ∷ []) told
+                pushed ∙ ap (λ (v : StepValues). values ++ v ∷ []) (found ∙ same)
                 ∙ pushed_next (values_at first.look first.config es rows feet part) [] values index h.told;
           }
 
