@@ -315,7 +315,7 @@ def like_the_report(judge, what, steps, tail, report, status, ended):
     return pairs
 
 
-ACCESS = re.compile(rb"        ((?:atomic )?(?:load|store)) (.*), (\d+) bytes?")
+ACCESS = re.compile(rb"        ((?:atomic )?(?:load|store)) (.*?)(?: = (.*))?, (\d+) bytes?")
 KINDS = (b"load", b"store", b"atomic load", b"atomic store")
 
 
@@ -392,6 +392,36 @@ class Names:
         return False
 
 
+class Held:
+    """The numbers that bytes hold, as the accesses of a run so far tell them."""
+
+    def __init__(self):
+        self.numbers = {}
+
+    def forget(self, addr, length):
+        """What held a number is stored to."""
+        self.numbers = {it: number for it, number in self.numbers.items()
+                        if it[0] + it[1] <= addr or addr + length <= it[0]}
+
+    def differing(self, told, accesses):
+        """The loads of a step that are told nothing where there is a number or a pointer, or another number than the bytes
+        hold. Its loads come before its stores."""
+        found, stored = [], []
+        for value, (kind, addr, length) in zip(told, accesses):
+            is_number = value is not None and value.isdigit()
+            if kind % 2:
+                stored.append((addr, length, value if is_number else None))
+            elif value is None and length in (1, 2, 4, 8, 16):
+                found.append((addr, length))
+            elif is_number and self.numbers.setdefault((addr, length), value) != value:
+                found.append((addr, length, value, self.numbers[addr, length]))
+        for addr, length, value in stored:
+            self.forget(addr, length)
+            if value is not None:
+                self.numbers[addr, length] = value
+        return found
+
+
 def picks_of(schedule):
     """The picks of the start, and those of each entry."""
     lines = schedule.split(b"\n")[1:-1]
@@ -413,9 +443,10 @@ def entered_by(source, steps, k):
 
 
 def like_the_footprints(judge, what, source, schedule, steps, feet):
-    """What stands below each step is what its footprint has, and each access has a name of what it reaches."""
-    doings, picks, wrong, unnamed = Doings(), picks_of(schedule), [], []
-    names = Names(source, picks[0])
+    """What stands below each step is what its footprint has, and each access has a name of what it reaches. A load is told
+    what the last store to its bytes was told."""
+    doings, picks, wrong, unnamed, differing = Doings(), picks_of(schedule), [], [], []
+    names, held = Names(source, picks[0]), Held()
     for k, (step, foot) in enumerate(zip(steps, feet)):
         lines = [it for it in step.below if not it.startswith((b"        prints ", b"        races with "))]
         wanted = doings.lines(foot)
@@ -425,12 +456,14 @@ def like_the_footprints(judge, what, source, schedule, steps, feet):
             wrong.append((step.line, lines, foot))
             continue
         for it, (kind, addr, length) in zip(shown, foot[3]):
-            if (it.group(1), int(it.group(3))) != (KINDS[kind], length):
+            if (it.group(1), int(it.group(4))) != (KINDS[kind], length):
                 wrong.append((step.line, it.group(), kind, length))
             if not names.are(step, addr, it.group(2)):
                 unnamed.append((step.line, it.group(2), addr, names.called.get(addr)))
+        differing += [(step.line, *it) for it in held.differing([it.group(3) for it in shown], foot[3])]
     judge(f"{what}: what its steps did", not wrong and len(steps) - len(feet) in (0, 1), f"{wrong[:2]}")
     judge(f"{what}: the names of what they reach", not unnamed, f"{unnamed[:2]}")
+    judge(f"{what}: what they load and store", not differing, f"{differing[:2]}")
 
 
 def by_places(steps, pairs):

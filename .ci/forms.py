@@ -241,13 +241,13 @@ start 16 4096
 """
 LAID_STEPS = """1  thread 0  5:3  main start  live x
 2  thread 0  5:11  main start  x = u8 1
-        store x, 1 byte
+        store x = 1, 1 byte
 3  thread 0  6:3  main start  x =  ..
-        store x, 1 byte
+        store x = 7, 1 byte
 4  thread 0  7:8  main start  x = ..
-        store x, 1 byte
+        store x = 8, 1 byte
 5  thread 0  9:4  main start  x = add(u8 1, add(u8 2, add(u8 3, add(u8 4, add(u8 5, add(u8 ..
-        store x, 1 byte
+        store x = 28, 1 byte
 6  thread 0  9:80  main start  exit ..
 step 6 ended the run
 verdict exit
@@ -274,12 +274,12 @@ live x; x = u8 1; goto last; last regular: x = add(u8 1,add(u8 2,add(u8 3, add(u
 x = add(u8 1, add(u8 2,add(u8 3, add(u8 4, add(u8 5,u8 6))))); exit; } main main"""
 SIX_STEPS = """1  thread 0  4:1  main start  live x
 2  thread 0  4:9  main start  x = u8 1
-        store x, 1 byte
+        store x = 1, 1 byte
 3  thread 0  4:19  main start  goto last
 4  thread 0  4:44  main last  x = add(u8 1,add(u8 2,add(u8 3, add(u8 4, add(u8 5,u8 6)))))
-        store x, 1 byte
+        store x = 21, 1 byte
 5  thread 0  5:1  main last  x = add(u8 1, add(u8 2,add(u8 3, add(u8 4, add(u8 5,u8 6)))) ..
-        store x, 1 byte
+        store x = 21, 1 byte
 6  thread 0  5:64  main last  exit
 step 6 ended the run
 verdict exit
@@ -323,13 +323,13 @@ STORES_RACES = """\
 races 4
 """
 STORES_STEPS = """10  thread 2  5:16  worker again  deref(load(p), u8) = u8 1
-        load p, 8 bytes
-        store number, 1 byte
+        load p = number, 8 bytes
+        store number = 1, 1 byte
         races with step 8
         races with step 12
 11  thread 2  5:43  worker again  goto again
 12  thread 0  11:15  main last  deref(global number + 0, u8) = u8 9
-        store number, 1 byte
+        store number = 9, 1 byte
         races with step 10
 step 13 ended the run
 verdict exit

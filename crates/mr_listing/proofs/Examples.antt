@@ -6,7 +6,12 @@ use Rattle.mr_base.specs.declared.thread.Event.TheVariants as event
 use Rattle.mr_base.specs.declared.thread.Status.{Status}
 use Rattle.mr_base.specs.declared.thread.Status.TheVariants.{Enabled, OnJoin, OnLock}
 use Rattle.mr_labels.specs.declared.step.ToldStep.{ToldStep}
-use Rattle.mr_listing.specs.Accesses.{bytes_text}
+use Rattle.mr_labels.specs.declared.step.Stand.{Stand}
+use Rattle.mr_listing.specs.declared.held.Held.TheVariants as held
+use Rattle.mr_listing.specs.declared.held.StepValues.{StepValues}
+use Rattle.mr_listing.specs.Accesses.{bytes_text, value_text}
+use Rattle.mr_listing.specs.Held.{held_for}
+use Rattle.mr_listing.specs.Seen.{Seen}
 use Rattle.mr_listing.specs.Events.{event_text}
 use Rattle.mr_listing.specs.Races.{same_stand, times_text}
 use Rattle.mr_listing.specs.Spots.{spot_text, statement_text}
@@ -94,6 +99,29 @@ one_byte = refl
 two_bytes : bytes_text 2 ≡ codes "2 bytes"
 unfolding digits
 two_bytes = refl
+
+number_told : (s : Seen) (here : Option Stand) → value_text s here (held.Number 7) ≡ codes " = 7"
+unfolding digits
+number_told s here = refl
+
+-- a pointer without provenance is its address
+address_told : (s : Seen) (here : Option Stand)
+    → value_text s here (held.Pointer (record { addr = 64; prov = None })) ≡ codes " = 64"
+unfolding digits
+address_told s here = refl
+
+-- an atomic addition of 2 to 5: its load is told 5, and its store 7
+abbrev added : StepValues
+added = record {
+  before = held.Number 5 ∷ held.Number 5 ∷ [];
+  behind = held.Number 7 ∷ held.Number 7 ∷ [];
+}
+
+loaded : held_for (Some added) 0 (record { store = false; atomic = true; addr = 64; len = 4 }) ≡ held.Number 5
+loaded = refl
+
+stored : held_for (Some added) 1 (record { store = true; atomic = true; addr = 64; len = 4 }) ≡ held.Number 7
+stored = refl
 
 -- ---- races: steps are counted from 1
 

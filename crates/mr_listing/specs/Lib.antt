@@ -1,6 +1,7 @@
 pub mod Accesses
 pub mod Events
 pub mod Freed
+pub mod Held
 pub mod Leaks
 pub mod Partners
 pub mod Races

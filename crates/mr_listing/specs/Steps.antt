@@ -5,7 +5,8 @@ use Rattle.mr_event.specs.Footprint.{Footprint}
 use Rattle.mr_report.specs.declared.report.Line.{Line}
 use Rattle.mr_report.specs.Report.{brief_text}
 use Rattle.mr_labels.specs.declared.step.ToldStep.{ToldStep}
-use Rattle.mr_listing.specs.Accesses.{access_line}
+use Rattle.mr_listing.specs.declared.held.StepValues.{StepValues}
+use Rattle.mr_listing.specs.Accesses.{accesses_text}
 use Rattle.mr_listing.specs.Events.{end_text, event_text, woken_line}
 use Rattle.mr_listing.specs.Leaks.{leaks_text}
 use Rattle.mr_listing.specs.Partners.{partner_line, partners_at}
@@ -29,27 +30,30 @@ printed_by lines told =
 abbrev pub print_line : Line → List ℕ
 print_line line = codes "        prints > " ++ line.text ++ codes "\n"
 
--- what a step did: to a lock or to another thread; whether its thread ended; whom it woke; and its accesses
-abbrev pub foot_text : Seen → ToldStep → Option Footprint → List ℕ
-foot_text s told None = []
-foot_text s told (Some foot) =
+-- what a step did: to a lock or to another thread; whether its thread ended; whom it woke; and its accesses, which
+-- have these values
+abbrev pub foot_text : Seen → Option StepValues → ToldStep → Option Footprint → List ℕ
+foot_text s v told None = []
+foot_text s v told (Some foot) =
     event_text s.program told foot.event foot.woken ++ end_text foot.ended ++ flat_map woken_line foot.woken
-    ++ flat_map (access_line s told.before) foot.accesses
+    ++ accesses_text s told.before v foot.accesses
 
--- THE LINES OF A STEP: where its thread stood, its prints, what it did, and the steps with which it races
-abbrev pub step_text : Seen → ToldStep → List ℕ
-step_text s told =
+-- THE LINES OF A STEP: where its thread stood, its prints, what it did, and the steps with which it races. What the
+-- accesses of a step hold stands at its number
+abbrev pub step_text : Seen → List StepValues → ToldStep → List ℕ
+step_text s values told =
     head_line s told ++ flat_map print_line (printed_by s.lines told)
-    ++ foot_text s told (slice_get s.feet told.number) ++ flat_map partner_line (partners_at s.races told.number)
+    ++ foot_text s (slice_get values told.number) told (slice_get s.feet told.number)
+    ++ flat_map partner_line (partners_at s.races told.number)
 
 -- which step ended the run without completing, if one did
 abbrev pub stop_text : ℕ → ℕ → List ℕ
 stop_text steps completed =
     if nat_lt completed steps then codes "step " ++ decimal steps ++ codes " ended the run\n" else []
 
--- THE STEPS that are told; behind them the verdict, how many races there are, how the threads stand where no step
--- stopped the run, and which blocks a leak has left
-abbrev pub steps_text : Seen → List ℕ
-steps_text s =
-    flat_map (step_text s) s.steps ++ stop_text s.count (length s.feet) ++ brief_text [] s.verdict s.races
+-- THE STEPS that are told, with the values of the run's steps; behind them the verdict, how many races there are, how
+-- the threads stand where no step stopped the run, and which blocks a leak has left
+abbrev pub steps_text : Seen → List StepValues → List ℕ
+steps_text s values =
+    flat_map (step_text s values) s.steps ++ stop_text s.count (length s.feet) ++ brief_text [] s.verdict s.races
     ++ rests_text s ++ leaks_text s

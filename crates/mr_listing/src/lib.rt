@@ -2,7 +2,7 @@
 //!
 //! - [`Shown`]: what a text is made of: a program with its text, and what its run tells.
 //! - [`steps`]: a line for each step that is told, with what it printed, what it did to locks and threads, its accesses by
-//!   name, and its partners; and the verdict.
+//!   name and with what they loaded or stored ([`StepValues`], [`Held`]), and its partners; and the verdict.
 //! - [`races`]: the listed races by pairs of places, those with most races first, each pair with how many there are.
 //! - [`push_spoken`]: what an undefined run speaks of: an allocation by its name, and where in it.
 //! - [`stand_text`]: where a thread stands, by the statement at which it does; [`before_of`]: where that of a step did.
@@ -19,6 +19,7 @@
 
 mod accesses;
 mod events;
+mod held;
 mod law;
 mod leaks;
 mod listing;
@@ -32,6 +33,7 @@ mod spots;
 
 pub use accesses::{access_word, push_bytes, push_reached};
 pub use events::{acquire_word, join_word, push_end, push_note, push_woken, release_word};
+pub use held::{Held, StepValues};
 pub use law::races_are_grouped;
 pub use listing::steps;
 pub use pairs::{Group, push_group, push_times, races, rank_by_count, ranked};

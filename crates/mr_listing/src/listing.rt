@@ -7,6 +7,7 @@ ghost use Rattle.mr_listing.specs.Steps.{foot_text, head_line, print_line, print
 use crate::OutOfMemory;
 use crate::accesses::push_accesses;
 use crate::events::{push_end, push_event, push_woken};
+use crate::held::StepValues;
 use crate::leaks::push_leaks;
 use crate::partners::{Partner, partners_of, push_partners};
 use crate::rests::push_rests;
@@ -69,15 +70,23 @@ fn foot_at(feet: &[Footprint], number: usize) -> Option<&Footprint>
     feet.get(number)
 }
 
-// Appends what a step did, by its footprint; nothing where it did not complete.
+// The values of the step of this number, if they are told.
+fn values_at(values: &[StepValues], number: usize) -> Option<&StepValues>
+    ensures { option_copied result ≡ slice_get values.now number }
+{
+    values.get(number)
+}
+
+// Appends what a step with these values did, by its footprint; nothing where it did not complete.
 fn push_foot(
     out: &mut Vec<u8>,
     shown: &Shown<'_>,
+    values: Option<&StepValues>,
     told: &ToldStep,
     foot: Option<&Footprint>,
 ) -> Result<(), OutOfMemory>
-    ensures { OnOk result (out.new.items
-        ≡ out.old.items ++ foot_text (seen shown.now) told.now (option_copied foot.entry)) }
+    ensures { OnOk result (out.new.items ≡ out.old.items
+        ++ foot_text (seen shown.now) (option_copied values.entry) told.now (option_copied foot.entry)) }
 {
     match foot {
         None => Ok(()),
@@ -85,7 +94,7 @@ fn push_foot(
             push_event(out, shown, told, foot.event(), foot.woken())?;
             push_end(out, foot.ended())?;
             push_woken(out, foot.woken())?;
-            push_accesses(out, shown, told.before, foot.accesses())
+            push_accesses(out, shown, told.before, values, foot.accesses())
         }
     }
 }
@@ -95,14 +104,16 @@ fn push_step(
     out: &mut Vec<u8>,
     shown: &Shown<'_>,
     partners: &[Partner],
+    values: &[StepValues],
     told: &ToldStep,
 ) -> Result<(), OutOfMemory>
     requires { ArePartners (seen shown.now).races partners.now }
-    ensures { OnOk result (out.new.items ≡ out.old.items ++ step_text (seen shown.now) told.now) }
+    ensures { OnOk result (out.new.items ≡ out.old.items ++ step_text (seen shown.now) values.now told.now) }
 {
     push_head(out, shown, told)?;
     push_prints(out, printed_by(shown.lines, told))?;
-    push_foot(out, shown, told, foot_at(shown.feet, told.number))?;
+    let held = values_at(values, told.number);
+    push_foot(out, shown, held, told, foot_at(shown.feet, told.number))?;
     push_partners(out, shown.races, partners, told.number)
 }
 
@@ -111,13 +122,15 @@ fn push_steps(
     out: &mut Vec<u8>,
     shown: &Shown<'_>,
     partners: &[Partner],
+    values: &[StepValues],
     steps: &[ToldStep],
 ) -> Result<(), OutOfMemory>
     requires { ArePartners (seen shown.now).races partners.now }
-    ensures { OnOk result (out.new.items ≡ out.old.items ++ flat_map (step_text (seen shown.now)) steps.now) }
+    ensures { OnOk result (out.new.items
+        ≡ out.old.items ++ flat_map (step_text (seen shown.now) values.now) steps.now) }
 {
     for told in steps {
-        push_step(out, shown, partners, told)?;
+        push_step(out, shown, partners, values, told)?;
     }
     Ok(())
 }
@@ -134,14 +147,19 @@ fn push_stop(out: &mut Vec<u8>, steps: usize, completed: usize) -> Result<(), Ou
     out.extend_from_slice(b" ended the run\n")
 }
 
-/// The text of the steps that are told; behind them the verdict, how many races there are, how the threads stand where no
-/// step stopped the run, and which blocks a leak has left. An `Err` is for want of memory.
-pub fn steps(alloc: Global, shown: &Shown<'_>) -> Result<Vec<u8>, OutOfMemory>
-    ensures { IfOk result (λ text. text.items ≡ steps_text (seen shown.now)) }
+/// The text of the steps that are told, with what they loaded and stored, which stands at the number of each; behind
+/// them the verdict, how many races there are, how the threads stand where no step stopped the run, and which blocks
+/// a leak has left. An `Err` is for want of memory.
+pub fn steps(
+    alloc: Global,
+    shown: &Shown<'_>,
+    values: &[StepValues],
+) -> Result<Vec<u8>, OutOfMemory>
+    ensures { IfOk result (λ text. text.items ≡ steps_text (seen shown.now) values.now) }
 {
     let partners = partners_of(alloc, shown.races)?;
     let mut out = Vec::new(alloc);
-    push_steps(&mut out, shown, partners.as_slice(), shown.steps)?;
+    push_steps(&mut out, shown, partners.as_slice(), values, shown.steps)?;
     push_stop(&mut out, shown.count, shown.feet.len())?;
     brief(&[], shown.verdict, shown.races, &mut out)?;
     push_rests(&mut out, shown)?;

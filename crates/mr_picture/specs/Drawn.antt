@@ -14,7 +14,7 @@ use Rattle.mr_picture.specs.Span.{is_in}
 
 -- what is told of a run behind its steps
 abbrev pub tail_of : Seen → List ℕ
-tail_of s = steps_text (record s { steps = [] })
+tail_of s = steps_text (record s { steps = [] }) []
 
 -- a run as it is drawn
 abbrev pub sketch_of : Seen → Sketch

@@ -29,7 +29,7 @@ pub(crate) fn tail_of(alloc: Global, shown: &Shown<'_>) -> Result<Vec<u8>, OutOf
         verdict: shown.verdict,
         rests: shown.rests,
     };
-    steps(alloc, &end)
+    steps(alloc, &end, &[])
 }
 
 // The thread that stands there.

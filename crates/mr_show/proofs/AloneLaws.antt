@@ -115,29 +115,29 @@ module _ (text : List ℕ) (p : Program) (w : Schedule) (alone : are_of_first w.
   abbrev with_all : Config Own → Seen
   with_all c = gathered text p c (length w.entries) [] [] (stands_of p w) (steps_of p w)
 
-  races_told : (c : Config Own) → part_answer Races (spoken_of p w) (without c) ≡ part_answer Races (spoken_of p w) (with_all c)
+  races_told : (c : Config Own) → part_answer Races (spoken_of p w) [] (without c) ≡ part_answer Races (spoken_of p w) [] (with_all c)
   races_told c =
-      ap (λ (pairs : List Pair). part_answer Races (spoken_of p w) (record (without c) { races = pairs })) (none_alone [] refl)
-      ∙ sym (ap (λ (pairs : List Pair). part_answer Races (spoken_of p w) (record (with_all c) { races = pairs })) (none_shown p w alone))
+      ap (λ (pairs : List Pair). part_answer Races (spoken_of p w) [] (record (without c) { races = pairs })) (none_alone [] refl)
+      ∙ sym (ap (λ (pairs : List Pair). part_answer Races (spoken_of p w) [] (record (with_all c) { races = pairs })) (none_shown p w alone))
 
   orders_told : (c : Config Own)
-      → part_answer TwoOrders (spoken_of p w) (without c) ≡ part_answer TwoOrders (spoken_of p w) (with_all c)
+      → part_answer TwoOrders (spoken_of p w) [] (without c) ≡ part_answer TwoOrders (spoken_of p w) [] (with_all c)
   orders_told c =
       let said : List ℕ → List Pair → Answer = λ xs rust. record { text = xs; status = report_status c.verdict (either rust []) } in
       let here = none_by_rust [] refl in
       let there = none_by_rust (steps_of p w) (alone_steps p w alone) in
-      ap (λ (pairs : List Pair). part_answer TwoOrders (spoken_of p w) (record (without c) { races = pairs })) (none_alone [] refl)
+      ap (λ (pairs : List Pair). part_answer TwoOrders (spoken_of p w) [] (record (without c) { races = pairs })) (none_alone [] refl)
       ∙ ap₂ said (two_alike (without c) (with_all c) here there) (here ∙ sym there)
-      ∙ sym (ap (λ (pairs : List Pair). part_answer TwoOrders (spoken_of p w) (record (with_all c) { races = pairs })) (none_shown p w alone))
+      ∙ sym (ap (λ (pairs : List Pair). part_answer TwoOrders (spoken_of p w) [] (record (with_all c) { races = pairs })) (none_shown p w alone))
 
   -- ITS RACES ARE TOLD without its footprints
   pub alone_told : (outcome : Result Standing RunFault) → RunAnswer p w outcome → (part : Part) → lists_races part ≡ true
       → IsToldAs part text p w [] [] [] [] outcome
   alone_told (Err f) run part is = tt
   alone_told (Ok m) run Races is =
-      ap (λ (c : Config Own). part_answer Races (spoken_of p w) (without c)) run.config ∙ races_told (run_of p w)
+      ap (λ (c : Config Own). part_answer Races (spoken_of p w) [] (without c)) run.config ∙ races_told (run_of p w)
   alone_told (Ok m) run TwoOrders is =
-      ap (λ (c : Config Own). part_answer TwoOrders (spoken_of p w) (without c)) run.config ∙ orders_told (run_of p w)
+      ap (λ (c : Config Own). part_answer TwoOrders (spoken_of p w) [] (without c)) run.config ∙ orders_told (run_of p w)
   alone_told (Ok m) run (Steps from to) is = absurd (cc)
   alone_told (Ok m) run (Order first second) is = absurd (cc)
   alone_told (Ok m) run (Picture asked) is = absurd (cc)

@@ -33,8 +33,8 @@ use Rattle.mr_labels.specs.declared.step.ToldStep.{ToldStep}
 use Rattle.mr_show.specs.declared.form.Part.{Part}
 use Rattle.mr_show.specs.declared.form.Saying.{Saying}
 use Rattle.mr_replay.specs.Spoken.{spoken_of}
-use Rattle.mr_show.specs.Answer.{answer_under, file_answer, part_answer, program_answer, ran_answer, rows_in, run_seen}
-use Rattle.mr_show.specs.Answer.{stands_in, steps_in, told_for}
+use Rattle.mr_show.specs.Answer.{answer_under, file_answer, part_answer, part_values, program_answer, ran_answer}
+use Rattle.mr_show.specs.Answer.{rows_in, run_seen, stands_in, steps_in, told_for, told_values}
 use Rattle.mr_show.specs.Gathered.{gathered, lexemes_in}
 use Rattle.mr_show.specs.Answering.{IsOfFile, IsOfProgram, IsOfText, IsScheduleUnread, IsToldAs}
 
@@ -43,21 +43,24 @@ use Rattle.mr_show.specs.Answering.{IsOfFile, IsOfProgram, IsOfText, IsScheduleU
 module _ (part : Part) (text : List ℕ) (p : Program) (v : Version) (w : Schedule) where
   -- one that was taken to its end is told so
   pub told_run : (m : Standing) (a : Answer) (result : Result Written Refusal) → IsRun p w m
-      → a ≡ part_answer part (spoken_of p w) (run_seen part text p w) → Tells a result
+      → a ≡ part_answer part (spoken_of p w) (told_values part p w) (run_seen part text p w) → Tells a result
       → Tells (ran_answer part text p v w) result
   told_run m a result run is tells = subst (λ (b : Answer). Tells b result) (is ∙ sym legal) tells
     where
-      legal : ran_answer part text p v w ≡ part_answer part (spoken_of p w) (run_seen part text p w)
+      legal : ran_answer part text p v w
+          ≡ part_answer part (spoken_of p w) (told_values part p w) (run_seen part text p w)
       legal =
           ap (λ (f : Option PlacedFault).
-          told (part_answer part (spoken_of p w)) (unless_broken v w f (run_seen part text p w)))
+          told (part_answer part (spoken_of p w) (told_values part p w))
+          (unless_broken v w f (run_seen part text p w)))
           (no_schedule_fault p w run.legal)
 
   -- and the first rule that the schedule breaks, on its line
   pub told_broken : (f : RunFault) → IsFirstFault p w f → Tells (ran_answer part text p v w) (Err (refusal_by v w f))
   told_broken (Broken place code earlier) h =
       ap (λ (o : Option PlacedFault).
-      told (part_answer part (spoken_of p w)) (unless_broken v w o (run_seen part text p w))) h
+      told (part_answer part (spoken_of p w) (told_values part p w))
+      (unless_broken v w o (run_seen part text p w))) h
   told_broken Memory h = tt
 
   -- by where its machine stands, the allocations and the steps that are told, where threads stood, and its footprints
@@ -67,7 +70,7 @@ module _ (part : Part) (text : List ℕ) (p : Program) (v : Version) (w : Schedu
       → OnOk outcome (stands ≡ stands_in (told_for part) p w) → OnOk outcome (feet ≡ steps_of p w)
       → IsToldAs part text p w rows steps stands feet outcome
   told_whole (Ok m) rows steps stands feet run made tell stood are =
-      (λ i. part_answer part (spoken_of p w)
+      (λ i. part_answer part (spoken_of p w) (part_values part p w (made i) (are i))
       (gathered text p (run.config i) (length w.entries) (made i) (tell i) (stood i) (are i)))
   told_whole (Err f) rows steps stands feet run made tell stood are = tt
 

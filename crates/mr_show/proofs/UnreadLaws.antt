@@ -22,6 +22,7 @@ use Rattle.mr_answer.specs.Answers.{unless_broken}
 use Rattle.mr_answer.proofs.StatusLaws.{at_most_one}
 use Rattle.mr_fill.specs.Told.{texts_of}
 use Rattle.mr_fill.specs.declared.told.FilledText.{FilledText}
+use Rattle.mr_listing.specs.declared.held.StepValues.{StepValues}
 use Rattle.mr_listing.specs.Seen.{Seen}
 use Rattle.mr_base.specs.declared.reached.Reached.{Reached}
 use Rattle.mr_replay.specs.Spoken.{spoken_of}
@@ -32,7 +33,7 @@ use Rattle.mr_show.specs.declared.form.Saying.TheVariants.{Next, OfOrder, OfRun}
 use Rattle.mr_show.specs.declared.form.Filling.{Filling}
 use Rattle.mr_show.specs.Answer.{answer_of, answer_under, bytes_answer, next_under, part_answer, program_answer}
 use Rattle.mr_show.specs.Answer.{ran_under, rust_of}
-use Rattle.mr_show.specs.Answer.{run_seen, shown_answer, text_answer, usage, why_answer}
+use Rattle.mr_show.specs.Answer.{run_seen, shown_answer, text_answer, told_values, usage, why_answer}
 use Rattle.mr_show.specs.Filled.{filled_answer, unless_bad}
 use Rattle.mr_show.specs.Next.{next_from, reached_answer}
 use Rattle.mr_hunt.specs.Aims.{Aim, first_met}
@@ -64,11 +65,11 @@ use Rattle.mr_show.proofs.CheckedLaws.{checked_six, files_six}
 abbrev SixIf : Type 0 → ℕ → Type 0
 SixIf lacking status = (status ≤ 5) ⊎ ((status ≡ 6) × lacking)
 
-legal_least : (part : Part) (spoken : Option Reached) (v : Version) (w : Schedule) (f : Option PlacedFault) (s : Seen)
-    → (told (part_answer part spoken) (unless_broken v w f s)).status ≤ 5
-legal_least part spoken v w None s =
+legal_least : (part : Part) (spoken : Option Reached) (values : List StepValues) (v : Version) (w : Schedule)
+    → (f : Option PlacedFault) (s : Seen) → (told (part_answer part spoken values) (unless_broken v w f s)).status ≤ 5
+legal_least part spoken values v w None s =
     let least = at_most_one s.verdict (either (rust_of part s.feet) s.races) in omega (arith, least)
-legal_least part spoken v w (Some f) s = omega arith
+legal_least part spoken values v w (Some f) s = omega arith
 
 next_least : (text : List ℕ) (p : Program) (v : Version) (w : Schedule) (f : Option Fault)
     → (next_from text p v w f).status ≤ 5
@@ -93,8 +94,8 @@ module _ (lacking : Type 0) where
   ran_six : (part : Part) (text : List ℕ) (p : Program) (r : Result Read TextOf)
       → SixIf lacking (told (ran_under part text p) (spelled r)).status
   ran_six part text p (Ok r) =
-      inl (legal_least part (spoken_of p r.schedule) r.version r.schedule (schedule_fault p r.schedule)
-      (run_seen part text p r.schedule))
+      inl (legal_least part (spoken_of p r.schedule) (told_values part p r.schedule) r.version r.schedule
+      (schedule_fault p r.schedule) (run_seen part text p r.schedule))
   ran_six part text p (Err f) = inl (omega arith)
 
   next_six : (text : List ℕ) (p : Program) (r : Result Read TextOf)

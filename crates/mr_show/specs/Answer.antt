@@ -26,6 +26,7 @@ use Rattle.mr_replay.specs.declared.telling.Between.{Between}
 use Rattle.mr_replay.specs.Stands.{stands_of}
 use Rattle.mr_replay.specs.Told.{if_between, told_steps}
 use Rattle.mr_picture.specs.declared.span.Span.{Span}
+use Rattle.mr_listing.specs.declared.held.StepValues.{StepValues}
 use Rattle.mr_listing.specs.Races.{races_text}
 use Rattle.mr_listing.specs.Seen.{Seen}
 use Rattle.mr_listing.specs.Spoken.{spoken_line}
@@ -43,6 +44,7 @@ use Rattle.mr_show.specs.declared.form.Saying.{Saying}
 use Rattle.mr_show.specs.declared.form.Saying.TheVariants.{Next, OfOrder, OfRun}
 use Rattle.mr_show.specs.declared.form.Telling.{Telling}
 use Rattle.mr_show.specs.declared.form.Topic.{Topic}
+use Rattle.mr_values.specs.Values.{run_values}
 use Rattle.mr_why.specs.Why.{Entry, entry_of, entry_text}
 use Rattle.mr_show.specs.Filled.{order_answer, order_in}
 use Rattle.mr_show.specs.Checked.{checked_file, checked_files}
@@ -104,15 +106,27 @@ run_seen part text p w =
     gathered text p (run_of p w) (length w.entries) (rows_in (told_for part) p w) (steps_in (told_for part) p w)
     (stands_in (told_for part) p w) (steps_of p w)
 
+-- what the accesses of a run loaded and stored that has these allocations and footprints, where a part tells it
+abbrev pub part_values : Part → Program → Schedule → List Allocation → List Footprint → List StepValues
+part_values (Steps from to) p w rows feet = run_values p w rows feet (record { from = from; to = to })
+part_values Races p w rows feet = []
+part_values TwoOrders p w rows feet = []
+part_values (Order first second) p w rows feet = []
+part_values (Picture asked) p w rows feet = []
+
+abbrev pub told_values : Part → Program → Schedule → List StepValues
+told_values part p w = part_values part p w (rows_in (told_for part) p w) (steps_of p w)
+
 -- ---- what is said of it
 
--- the text of a part; that of steps ends with the reason of an undefined run, and with what it speaks of
-abbrev pub part_text : Part → Option Reached → Seen → List ℕ
-part_text (Steps from to) spoken s = steps_text s ++ reason_text s.verdict ++ spoken_line s spoken
-part_text Races spoken s = races_text s
-part_text TwoOrders spoken s = two_orders_text s
-part_text (Order first second) spoken s = order_text s first second
-part_text (Picture asked) spoken s = picture_text s asked
+-- the text of a part; that of steps tells values, and ends with the reason of an undefined run and with what it speaks
+-- of
+abbrev pub part_text : Part → Option Reached → List StepValues → Seen → List ℕ
+part_text (Steps from to) spoken values s = steps_text s values ++ reason_text s.verdict ++ spoken_line s spoken
+part_text Races spoken values s = races_text s
+part_text TwoOrders spoken values s = two_orders_text s
+part_text (Order first second) spoken values s = order_text s first second
+part_text (Picture asked) spoken values s = picture_text s asked
 
 -- the races by Rust's order, where a part tells of them
 abbrev pub rust_of : Part → List Footprint → List Pair
@@ -123,15 +137,18 @@ rust_of (Order first second) feet = []
 rust_of (Picture asked) feet = []
 
 -- with the status that the report of the run has, or that of races where Rust's order has some
-abbrev pub part_answer : Part → Option Reached → Seen → Answer
-part_answer part spoken s =
-    record { text = part_text part spoken s; status = report_status s.verdict (either (rust_of part s.feet) s.races) }
+abbrev pub part_answer : Part → Option Reached → List StepValues → Seen → Answer
+part_answer part spoken values s = record {
+  text = part_text part spoken values s;
+  status = report_status s.verdict (either (rust_of part s.feet) s.races);
+}
 
 -- the same of the run under a schedule whose text is in a version, or the first rule that the schedule breaks, on its
 -- line of that text
 abbrev pub ran_answer : Part → List ℕ → Program → Version → Schedule → Answer
 ran_answer part text p v w =
-    told (part_answer part (spoken_of p w)) (unless_broken v w (schedule_fault p w) (run_seen part text p w))
+    told (part_answer part (spoken_of p w) (told_values part p w))
+    (unless_broken v w (schedule_fault p w) (run_seen part text p w))
 
 -- WHAT IS SAID of the run of the program of a text under the schedule in a file, or of what the order there becomes; or
 -- what refuses the file

@@ -24,7 +24,7 @@ use Rattle.mr_show.specs.declared.form.Saying.{Saying}
 use Rattle.mr_show.specs.declared.form.Telling.{Telling}
 use Rattle.mr_why.specs.Why.{entry_of}
 use Rattle.mr_show.specs.Answer.{bytes_answer, help_answer, file_answer, program_answer, shown_answer, text_answer}
-use Rattle.mr_show.specs.Answer.{part_answer, run_seen, why_answer}
+use Rattle.mr_show.specs.Answer.{part_answer, part_values, run_seen, told_values, why_answer}
 use Rattle.mr_refusals.specs.Answers.{IsStatus as IsCheckedStatus}
 use Rattle.mr_show.specs.Checked.{checked_file, checked_files}
 use Rattle.mr_show.specs.Form.{Bare, CheckedProgram, CheckedSchedule, Form, Help, Hunted, Shown, Why}
@@ -39,8 +39,9 @@ abbrev pub IsToldAs : Part → List ℕ → Program → Schedule → List Alloca
     → List Footprint → Result Standing RunFault → Type 0
 IsToldAs part text p w rows steps stands feet outcome =
     IfOk outcome
-    (λ m. part_answer part (spoken_of p w) (gathered text p m.config (length w.entries) rows steps stands feet)
-    ≡ part_answer part (spoken_of p w) (run_seen part text p w))
+    (λ m. part_answer part (spoken_of p w) (part_values part p w rows feet)
+    (gathered text p m.config (length w.entries) rows steps stands feet)
+    ≡ part_answer part (spoken_of p w) (told_values part p w) (run_seen part text p w))
 
 -- what is said of a program; or, where it breaks no rule, the read of the schedule failed
 abbrev pub IsOfProgram : Type 0 → Saying → List ℕ → Option (List ℕ) → Program → Result Written Refusal → Type 0

@@ -8,7 +8,8 @@ ghost use Rattle.mr_replay.specs.Spoken.{spoken_of};
 ghost use Rattle.mr_listing.specs.Seen.{seen};
 ghost use Rattle.mr_listing.specs.Spoken.{spoken_line};
 ghost use Rattle.mr_run.specs.Runs.{IsRun};
-ghost use Rattle.mr_show.specs.Answer.{part_answer, part_text, rust_of};
+ghost use Rattle.mr_start.specs.Runs.{Legal};
+ghost use Rattle.mr_show.specs.Answer.{part_answer, part_text, part_values, rust_of};
 ghost use Rattle.mr_listing.specs.Steps.{steps_text};
 ghost use Rattle.mr_show.specs.Gathered.{gathered};
 ghost use Rattle.mr_show.specs.Sentences.{reason_text};
@@ -21,14 +22,15 @@ use mr_clocks::Analysis;
 use mr_event::{Footprint, Pair};
 use mr_input::Written;
 use mr_labels::{Allocation, Allocations, Reached, Stand, ToldStep};
-use mr_listing::{Shown, push_spoken, races, steps};
+use mr_listing::{Shown, StepValues, push_spoken, races, steps};
 use mr_picture::{order_text, picture};
-use mr_replay::rests;
+use mr_replay::{Between, rests};
 use mr_run::Clocked;
 use mr_rust_order::races as races_by_rust;
 use mr_sched::Schedule;
 use mr_step::Machine;
 use mr_two_orders::{either, two_orders};
+use mr_values::values;
 use mr_wf::Checked;
 use std::alloc::{AllocError, Global};
 
@@ -52,6 +54,7 @@ pub(crate) fn laid(
     requires feet { length kept.now < 2 ^ 32 }
     requires run { IsRun p.now w.now machine.now }
     ensures answer { IfOk result (λ a. written_as a ≡ part_answer part (spoken_of p.now w.now)
+        (part_values part p.now w.now rows.items kept.now)
         (gathered text.now p.now machine.now.config (length w.now.entries) rows.items told.now stands.now kept.now)) }
     ensures status { IfOk result (λ a. IsStatus a.status) }
 {
@@ -60,6 +63,8 @@ pub(crate) fn laid(
     let rows = Allocations::new(alloc, rows)?;
     let lines = lines_of(alloc, machine)?;
     let rests = rests(alloc, machine)?;
+    let feet = kept.steps();
+    let values = values_of(alloc, part, p, w, &rows, feet)?;
     let shown = Shown {
         text,
         program,
@@ -68,13 +73,41 @@ pub(crate) fn laid(
         steps: told,
         stands,
         count: w.entries.len(),
-        feet: kept.steps(),
+        feet,
         lines: lines.as_slice(),
         races: kept.races(),
         verdict: machine.verdict(),
         rests: rests.as_slice(),
     };
-    written(alloc, part, machine.about(), &shown, kept.order())
+    written(
+        alloc,
+        part,
+        machine.about(),
+        values.as_slice(),
+        &shown,
+        kept.order(),
+    )
+}
+
+// What the accesses of a run loaded and stored that has these allocations and footprints, where a part tells it.
+fn values_of(
+    alloc: Global,
+    part: Part,
+    p: &Checked,
+    w: &Schedule,
+    rows: &Allocations,
+    feet: &[Footprint],
+) -> Result<Vec<StepValues>, AllocError>
+    requires few { length w.now.entries ≤ 2 ^ 22 }
+    requires legal { Legal p.now w.now }
+    ensures { IfOk result (λ values. values.items ≡ part_values part p.now w.now rows.now feet.now) }
+{
+    match part {
+        Part::Steps { from, to } => values(alloc, p, w, rows, feet, Between { from, to }),
+        Part::Races | Part::TwoOrders | Part::Order { .. } | Part::Picture { .. } => {
+            Ok(Vec::new(alloc))
+        }
+    }
 }
 
 // The text of a part of what is shown, with the status of the run.
@@ -82,6 +115,7 @@ fn written(
     alloc: Global,
     part: Part,
     spoken: Option<Reached>,
+    values: &[StepValues],
     shown: &Shown<'_>,
     order: &Analysis,
 ) -> Result<Written, AllocError>
@@ -89,28 +123,29 @@ fn written(
     requires feet { length (seen shown.now).feet < 2 ^ 32 }
     requires tracks { Tracks order.now (seen shown.now).feet }
     requires races { (seen shown.now).races ≡ predicted (seen shown.now).feet }
-    ensures answer { IfOk result (λ a. written_as a ≡ part_answer part spoken (seen shown.now)) }
+    ensures answer { IfOk result (λ a. written_as a ≡ part_answer part spoken values.now (seen shown.now)) }
     ensures status { IfOk result (λ a. IsStatus a.status) }
 {
     let rust = rust_of(alloc, part, shown.feet)?;
-    let text = text_of(alloc, part, spoken, shown, order, rust.as_slice())?;
+    let text = text_of(alloc, part, spoken, values, shown, order, rust.as_slice())?;
     Ok(Written {
         text,
         status: status_of(shown.verdict, either(rust.as_slice(), shown.races)),
     })
 }
 
-// The text of the steps that are told, and behind it the reason for which the run is undefined, where it is, with what
-// it speaks of.
+// The text of the steps that are told, with these values, and behind it the reason for which the run is undefined,
+// where it is, with what it speaks of.
 fn steps_of(
     alloc: Global,
     spoken: Option<Reached>,
+    values: &[StepValues],
     shown: &Shown<'_>,
 ) -> Result<Vec<u8>, AllocError>
-    ensures { IfOk result (λ text. text.items ≡ steps_text (seen shown.now)
+    ensures { IfOk result (λ text. text.items ≡ steps_text (seen shown.now) values.now
         ++ reason_text (seen shown.now).verdict ++ spoken_line (seen shown.now) spoken) }
 {
-    let mut text = steps(alloc, shown)?;
+    let mut text = steps(alloc, shown, values)?;
     push_reason(&mut text, shown.verdict)?;
     push_spoken(&mut text, shown, spoken)?;
     Ok(text)
@@ -133,6 +168,7 @@ fn text_of(
     alloc: Global,
     part: Part,
     spoken: Option<Reached>,
+    values: &[StepValues],
     shown: &Shown<'_>,
     order: &Analysis,
     rust: &[Pair],
@@ -142,10 +178,10 @@ fn text_of(
     requires tracks { Tracks order.now (seen shown.now).feet }
     requires races { (seen shown.now).races ≡ predicted (seen shown.now).feet }
     requires rust { rust.now ≡ rust_of part (seen shown.now).feet }
-    ensures { IfOk result (λ text. text.items ≡ part_text part spoken (seen shown.now)) }
+    ensures { IfOk result (λ text. text.items ≡ part_text part spoken values.now (seen shown.now)) }
 {
     match part {
-        Part::Steps { from: _, to: _ } => steps_of(alloc, spoken, shown),
+        Part::Steps { from: _, to: _ } => steps_of(alloc, spoken, values, shown),
         Part::Races => races(alloc, shown),
         Part::TwoOrders => two_orders(alloc, shown, order, rust),
         Part::Order { first, second } => order_text(alloc, shown, order, first, second),

@@ -1,6 +1,10 @@
 -- What contracts see of a machine.
 use Rattle.std.specs.Prelude.{ℕ, Bool, List, Option, None, Some}
+use Rattle.std.specs.Result.{result_ok}
 use Rattle.std.specs.Borrow.{Bor}
+use Rattle.mr_base.specs.declared.byte.AbstractByte.{AbstractByte}
+use Rattle.mr_base.specs.declared.byte.Pointer.{Pointer}
+use Rattle.mr_mem.specs.Memory.{Memory, read}
 use Rattle.mr_frame.specs.Frames.{Look}
 use Rattle.mr_frame.specs.declared.stack.At.{At}
 use Rattle.mr_frame.specs.Tops.{top_at}
@@ -22,3 +26,7 @@ seen_line l = printed_by l.0 l.1.now
 abbrev pub place_in : Option (Thread Own) → Option At
 place_in None = None
 place_in (Some th) = top_at th.own.stack.frames
+
+-- the bytes from a pointer on, where all of them lie in its live allocation
+abbrev pub bytes_from : Memory → Pointer → ℕ → Option (List AbstractByte)
+bytes_from m p len = result_ok (read m p len 1)

@@ -6,8 +6,8 @@
 //!
 //! Public calls: [`Machine::start`], [`Machine::step`], [`Machine::go`], and what a machine tells of where it stands:
 //! [`Machine::verdict`], [`Machine::about`], [`Machine::completed`], [`Machine::last`], [`Machine::lines`] and [`Machine::line`], [`Machine::threads`],
-//! [`Machine::enabled`], [`Machine::waiting`], [`Machine::place`], [`Machine::status`], [`Machine::holder`] and
-//! [`Machine::asks`].
+//! [`Machine::enabled`], [`Machine::waiting`], [`Machine::place`], [`Machine::status`], [`Machine::holder`],
+//! [`Machine::bytes`] and [`Machine::asks`].
 //!
 //! Proved: a start and a step lead exactly where the definitions say, or tell the first rule that is broken; a refused entry
 //! changes nothing; a completed step hands out its footprint, by [`Machine::go`] none; for want of memory the machine fails,
@@ -23,6 +23,7 @@ mod edition;
 mod fault;
 mod first;
 mod footprint;
+mod lending;
 mod machine;
 mod progress;
 mod setting;

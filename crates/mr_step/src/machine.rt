@@ -4,11 +4,13 @@ use crate::asking::asked;
 use crate::copies::copy_last;
 use crate::fault::{StepFault, Turn, unmade};
 use crate::first::first;
+use crate::lending::bytes_from;
 use crate::progress::{Progress, line_at, place_at};
 use crate::setting::Setting;
-use mr_base::{Reached, Status, Verdict};
+use mr_base::{Pointer, Reached, Status, Verdict};
 use mr_event::Footprint;
 use mr_frame::At;
+use mr_runs::View;
 use mr_sched::{Ask, Entry};
 use mr_start::{Start, begin};
 use mr_typing::Checked;
@@ -55,6 +57,7 @@ impl<'p> Model for Machine<'p> {
 impl<'p> Machine<'p> {
     ghost use Rattle.std.specs.Prelude.{◌≡◌, ℕ, ◌<◌, ◌^◌, IfOk, List, None, OnErr, Some, false, length, option_copied, slice_get};
     ghost use Rattle.std.specs.Option.{option_map};
+    ghost use Rattle.mr_runs.specs.Pieces.{bytes_of_pieces};
     ghost use Rattle.mr_sync.specs.Tables.{IsEnabled, holder_of, is_enabled, waits};
     ghost use Rattle.mr_plan.specs.Machine.{State, needs};
     ghost use Rattle.mr_plan.specs.Queries.{tables_of};
@@ -63,7 +66,7 @@ impl<'p> Machine<'p> {
     ghost use Rattle.mr_start.specs.Begin.{IsStart};
     ghost use Rattle.mr_start.specs.Start.{start_fault};
     ghost use Rattle.mr_step.specs.Answers.{GoAnswer, HandAnswer, StartAnswer, StepAnswer, standing};
-    ghost use Rattle.mr_step.specs.Standing.{place_in, seen_line};
+    ghost use Rattle.mr_step.specs.Standing.{bytes_from, place_in, seen_line};
 
     /// The machine before the first entry, with these start picks.
     pub fn start(alloc: Global, p: &'p Checked, picks: &[u64]) -> Result<Machine<'p>, StepFault>
@@ -273,6 +276,20 @@ impl<'p> Machine<'p> {
             None
         } else {
             self.progress.sync.holder(lock)
+        }
+    }
+
+    /// Lends the bytes from a pointer on, where all of them lie in its live allocation; None behind a step that itself
+    /// stopped.
+    pub fn bytes(&self, p: Pointer, len: u64) -> Option<View<'_>>
+        ensures there { (s : State Own) → self.now.config.state ≡ Some s
+            → option_map bytes_of_pieces result ≡ bytes_from s.shared.memory p len }
+        ensures gone { self.now.config.state ≡ None → result ≡ None }
+    {
+        if self.progress.gone {
+            None
+        } else {
+            bytes_from(&self.progress.scene.memory, p, len)
         }
     }
 

@@ -1,9 +1,10 @@
-use Rattle.std.proofs.Common.{◌++◌, ◌∙◌, ap}
+use Rattle.std.proofs.Common.{◌++◌, ◌∙◌, ap, ap₂}
 use Rattle.std.specs.Prelude.{Option, flat_map, slice_get}
 use Rattle.mr_event.specs.Footprint.{Footprint}
 use Rattle.mr_report.specs.declared.report.Line.{Line}
 use Rattle.std.proofs.Common.{List}
 use Rattle.mr_listing.specs.Partners.{partner_line, partners_at}
+use Rattle.mr_listing.specs.declared.held.StepValues.{StepValues}
 use Rattle.mr_listing.specs.Seen.{seen}
 use Rattle.mr_listing.specs.Steps.{foot_text, head_line, print_line, printed_by}
 use Rattle.mr_listing.proofs.Appended.{behind, last_behind}
@@ -16,7 +17,7 @@ returns c =
     let old = c.args.out.now.items in
     let head = head_line s told in
     let prints = flat_map print_line (printed_by s.lines told) in
-    let foot = foot_text s told (slice_get s.feet told.number) in
+    let foot = foot_text s (slice_get c.args.values.now told.number) told (slice_get s.feet told.number) in
     last_behind c.push_partners.result old (head ++ prints ++ foot)
     (flat_map partner_line (partners_at s.races told.number)) _ _
     (behind old (head ++ prints) foot _ _
@@ -24,5 +25,6 @@ returns c =
     (c.in_ok-push_prints.ensures
     ∙ ap (λ (ls : List Line). c.push_head.new.out.items ++ flat_map print_line ls) c.printed_by.ensures))
     (c.in_ok-push_foot.ensures
-    ∙ ap (λ (o : Option Footprint). c.push_prints.new.out.items ++ foot_text s told o) c.foot_at.ensures))
+    ∙ ap₂ (λ (v : Option StepValues) (o : Option Footprint). c.push_prints.new.out.items ++ foot_text s v told o)
+    c.values_at-held.ensures c.foot_at.ensures))
     c.push_partners.ensures

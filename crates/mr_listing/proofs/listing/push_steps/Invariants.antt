@@ -5,4 +5,5 @@ use Rattle.mr_listing.proofs.listing.push_steps.Given as goal
 
 -- the steps before this one have their lines
 abbrev pub invariant-loop-told : goal.invariant-loop-told
-invariant-loop-told l = l.out.items ≡ l.fn.out.items ++ flat_map (step_text (seen l.shown)) (take l.told-index l.steps)
+invariant-loop-told l =
+    l.out.items ≡ l.fn.out.items ++ flat_map (step_text (seen l.shown) l.values) (take l.told-index l.steps)

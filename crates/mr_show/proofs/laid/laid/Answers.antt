@@ -1,4 +1,4 @@
-use Rattle.std.proofs.Common.{◌≡◌, ◌<◌, ◌^◌, ◌∙◌, List, ap, arith, length, subst, sym}
+use Rattle.std.proofs.Common.{◌≡◌, ◌<◌, ◌^◌, ◌∙◌, List, ap, ap₂, arith, length, subst, sym}
 use Rattle.std.specs.Prelude.{IfOk, Option}
 use Rattle.mr_clocks.specs.Tracked.{Tracks}
 use Rattle.mr_event.specs.Footprint.{Footprint}
@@ -7,25 +7,29 @@ use Rattle.mr_plan.specs.Runs.{Config}
 use Rattle.mr_start.specs.ThreadSteps.{Own}
 use Rattle.mr_input.specs.declared.written.Written.{Written}
 use Rattle.mr_input.specs.Answer.{Answer, seen as written_as}
+use Rattle.mr_listing.specs.declared.held.StepValues.{StepValues}
 use Rattle.mr_listing.specs.Seen.{Seen}
 use Rattle.mr_base.specs.declared.reached.Reached.{Reached}
-use Rattle.mr_show.specs.Answer.{part_answer}
+use Rattle.mr_show.specs.Answer.{part_answer, part_values}
 use Rattle.mr_show.specs.Gathered.{gathered}
 use Rattle.mr_show.proofs.laid.laid.Goals as goal
+
+pub values_of-requires-clause-legal : goal.values_of-requires-clause-legal
+values_of-requires-clause-legal c = c.requires.run.legal
 
 pub written-requires-clause-count : goal.written-requires-clause-count
 written-requires-clause-count c = omega (arith, c.len.ensures, c.requires.few)
 
 pub written-requires-clause-feet : goal.written-requires-clause-feet
 written-requires-clause-feet c =
-    subst (λ (feet : List Footprint). length feet < 2 ^ 32) (sym c.steps.ensures) c.requires.feet
+    subst (λ (feet : List Footprint). length feet < 2 ^ 32) (sym c.steps-feet.ensures) c.requires.feet
 
 pub written-requires-clause-tracks : goal.written-requires-clause-tracks
 written-requires-clause-tracks c =
-    subst (λ (feet : List Footprint). Tracks c.order.result.now feet) (sym c.steps.ensures) c.order.ensures
+    subst (λ (feet : List Footprint). Tracks c.order.result.now feet) (sym c.steps-feet.ensures) c.order.ensures
 
 pub written-requires-clause-races : goal.written-requires-clause-races
-written-requires-clause-races c = c.races.ensures ∙ ap predicted (sym c.steps.ensures)
+written-requires-clause-races c = c.races.ensures ∙ ap predicted (sym c.steps-feet.ensures)
 
 pub returns-clause-answer : goal.returns-clause-answer
 returns-clause-answer c =
@@ -42,7 +46,7 @@ returns-clause-answer c =
       steps = told;
       stands = c.args.stands.now;
       count = c.len.result;
-      feet = c.steps.result.now;
+      feet = c.steps-feet.result.now;
       lines = c.as_slice.result.now;
       races = c.races.result.now;
       verdict = c.verdict.result;
@@ -58,7 +62,7 @@ returns-clause-answer c =
       steps = told;
       stands = c.args.stands.now;
       count = c.len.ensures i;
-      feet = c.steps.ensures i;
+      feet = c.steps-feet.ensures i;
       lines = lines i;
       races = c.races.ensures i;
       verdict = c.verdict.ensures i;
@@ -66,8 +70,13 @@ returns-clause-answer c =
     }) in
     let part = c.args.part in
     let spoken : Option Reached = c.about.result in
-    let laid : IfOk c.written.result (λ (a : Written). written_as a ≡ part_answer part spoken there) =
-    subst (λ (s : Seen). IfOk c.written.result (λ (a : Written). written_as a ≡ part_answer part spoken s)) same
-    c.written.ensures.answer in
-    subst (λ (x : Option Reached). IfOk c.written.result (λ (a : Written). written_as a ≡ part_answer part x there))
-    (c.about.ensures ∙ ap (λ (x : Config Own). x.about) c.requires.run.config) laid
+    let values =
+    c.as_slice-3.ensures.value ∙ c.in_ok-values.ensures
+    ∙ ap₂ (part_values part c.args.p.now c.args.w.now) c.in_ok-rows.ensures c.steps-feet.ensures in
+    let answer : Option Reached → List StepValues → Seen → Type 0 = λ x vs s.
+    IfOk c.written.result (λ (a : Written). written_as a ≡ part_answer part x vs s) in
+    let laid = subst (answer spoken c.as_slice-3.result.now) same c.written.ensures.answer in
+    let valued = subst (λ (vs : List StepValues). answer spoken vs there) values laid in
+    subst (λ (x : Option Reached).
+    answer x (part_values part c.args.p.now c.args.w.now c.args.rows.items c.args.kept.now) there)
+    (c.about.ensures ∙ ap (λ (x : Config Own). x.about) c.requires.run.config) valued

@@ -1,7 +1,7 @@
 use Rattle.mr_answer.proofs.RunLaws.{refused_read}
 use Rattle.mr_replay.specs.Spoken.{spoken_of}
 use Rattle.std.specs.Prelude.{length}
-use Rattle.mr_show.specs.Answer.{part_answer}
+use Rattle.mr_show.specs.Answer.{part_answer, part_values}
 use Rattle.mr_show.specs.Gathered.{gathered}
 use Rattle.mr_show.proofs.ShownLaws.{told_broken, told_run}
 use Rattle.mr_show.proofs.shown.ended.Goals as goal
@@ -10,7 +10,7 @@ pub returns-in-Ok-clause-answer : goal.returns-in-Ok-clause-answer
 returns-in-Ok-clause-answer c =
     let p = c.args.p.now in
     let w = c.args.w.now in
-    let a = part_answer c.args.part (spoken_of p w)
+    let a = part_answer c.args.part (spoken_of p w) (part_values c.args.part p w c.args.rows.items c.args.kept.now)
     (gathered c.args.text.now p c.in-Ok.machine.config (length w.entries) c.args.rows.items c.args.told.now
     c.args.stood.now c.args.kept.now) in
     told_run c.args.part c.args.text.now p c.args.v w c.in-Ok.machine a c.answered.result c.requires.run c.requires.told

@@ -1,0 +1,13 @@
+use Rattle.std.proofs.Common.{◌∙◌, arith}
+use Rattle.std.specs.Prelude.{option_copied}
+use Rattle.mr_labels.proofs.Growing.{appended_next}
+use Rattle.mr_listing.specs.Accesses.{line_at}
+use Rattle.mr_listing.specs.Seen.{seen}
+use Rattle.mr_listing.proofs.accesses.push_accesses.Goals as goal
+
+pub loop-at-preserved : goal.loop-at-preserved
+loop-at-preserved c =
+    c.in_ok-push_access_at.ensures
+    ∙ appended_next
+    (line_at (seen c.args.shown.now) c.args.here (option_copied c.args.values.entry) c.args.accesses.now)
+    c.args.out.now.items c.loop-at.out.items 0 c.loop-at.at c.loop-at.at (omega arith) c.loop-at.invariant
