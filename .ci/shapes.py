@@ -187,7 +187,7 @@ def of_companion():
     yield Shape(f"`picture` of {leaks}", "show picture P S", leaking, 2000, "instructions", drawn, 1, leaks, TIMES)
     yield Shape(many % "a number", "show next P S", lambda n: at_prints(n, 1), 20, end=asked)
     yield Shape(many % "5,000 numbers", "show next P S", lambda n: at_prints(n, 5000), 20, end=b" ..\n",
-                plain=many % "a number", most=TIMES, is_open="the step of each thread is evaluated")
+                plain=many % "a number", most=TIMES)
     yield Shape(prints, "run P S", printing, 4000, "written")
     yield Shape(f"`picture` of {prints}", "show picture P S", printing, 4000, "written", drawn, 0, prints, GROWTH)
     yield Shape("`next` of a refused entry of many picks, by what is written", "show next P S", picked, 10000,
