@@ -61,6 +61,12 @@ waking_alike f g h = alike_equal (waking_as f g) g (record {
   woken = refl;
 })
 
+-- equal steps did the same
+pub equal_same : (f g : Footprint) → f ≡ g → DoTheSame f g
+equal_same f g e =
+    subst (λ (s : Footprint). DoTheSame f s) e
+    (record { thread = refl; event = refl; ended = refl; accesses = refl; touched = refl; allocated = refl; freed = refl })
+
 -- steps that do the same ask the same rows
 asked_alike : (f g : Footprint) (rows : List Row) (found : List ℕ) → DoTheSame f g → AreAllAsked f rows found → AreAllAsked g rows found
 asked_alike f g rows found h all =

@@ -2,7 +2,7 @@
 use Rattle.std.proofs.Common.{◌≡◌, ◌≢◌, ℕ, ◌+◌, ◌-◌, ◌<◌, ◌≤◌, inl, inr, List, true, false, length, take, slice_index, refl, sym, ◌∙◌, ap, subst, arith}
 use native.Mathlib.Decide.{ℕ_discrete}
 use Rattle.std.specs.List.{list_any}
-use Rattle.std.proofs.lemmas.Bool.{and_parts, both_ways, cases_Bool}
+use Rattle.std.proofs.lemmas.Bool.{and_parts, both_ways, cases_Bool, false≢true}
 use Rattle.std.proofs.lemmas.List.{get_or-take}
 use Rattle.mr_base.specs.Accesses.{conflicts, races, some_race}
 use Rattle.mr_event.specs.Footprint.{Footprint}
@@ -56,6 +56,35 @@ no_race_key (Joins t) f g h none = refl
 no_race_key (Made a) f g h none = refl
 no_race_key (Touched a) f g h none = refl
 no_race_key (Wakes t) f g h none = refl
+
+-- a step that is noted in a row of a key that races with g races with g
+race_of_key : (key : Key) (f g : Footprint) → has_row f key ≡ true → key_races key g ≡ true → some_race f.accesses g.accesses ≡ true
+race_of_key (Range r) f g h e = race_from_range f g r h e
+race_of_key (Lock n) f g h e = absurd (false≢true e)
+race_of_key Creation f g h e = absurd (false≢true e)
+race_of_key Spawning f g h e = absurd (false≢true e)
+race_of_key (Starts t) f g h e = absurd (false≢true e)
+race_of_key (Joins t) f g h e = absurd (false≢true e)
+race_of_key (Made a) f g h e = absurd (false≢true e)
+race_of_key (Touched a) f g h e = absurd (false≢true e)
+race_of_key (Wakes t) f g h e = absurd (false≢true e)
+
+-- the latest step of a row of another thread, whose key races with j, is a partner of j, unless the clock knows it
+pub latest_rival : (run : List Footprint) (rows : List Row) (links : List Link) (x j m : ℕ) (clock : List ℕ) → AreRows run j rows links → IsClockOf run clock j → x < length rows → (row_at rows x).last ≡ m + 1 → (row_at rows x).thread ≢ thread_at run j → key_races (row_at rows x).key (step_at run j) ≡ true → (IsUnder run clock (step_of links m) → ⊥) → RacePair run (step_of links m) j
+latest_rival run rows links x j m clock a of inside at apart races over =
+    let row = row_at rows x in
+    let here = (a.each x inside).steps m (in_here links m row.last at) in
+    let differs : thread_at run (step_of links m) ≢ thread_at run j = λ same. apart (sym here.thread ∙ same) in
+    let unordered : HappensBefore run (step_of links m) j → ⊥ = λ h. over (of.exact (step_of links m) differs h) in
+    record {
+      before = here.within;
+      races = record {
+        apart = differs;
+        race = race_of_key row.key (step_at run (step_of links m)) (step_at run j) here.noted races;
+        unsynced = λ s. unordered (edge (woken s));
+      };
+      unordered = unordered;
+    }
 
 -- of two steps of which the later one depends on the earlier one, and doesn't race with it: they have a key in common
 -- that names no range that races, in whose rows the earlier one is noted

@@ -275,9 +275,10 @@ pub(crate) fn may_bind(key: Key, step: &Footprint) -> bool
     }
 }
 
-/// Whether some access of the step may race with the range that the key names.
+/// Whether some access of the step races with the range that the key names.
 pub(crate) fn may_race(key: Key, step: &Footprint) -> bool
-    ensures { key_races key step.now ≡ true → IsTrue result }
+    ensures raced { IsTrue result → key_races key step.now ≡ true }
+    ensures all { key_races key step.now ≡ true → IsTrue result }
 {
     match key {
         Key::Range(a) => races_with(a, step.accesses()),

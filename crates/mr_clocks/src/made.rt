@@ -1,6 +1,6 @@
 //! The clock of a step and its greatest partner, from the clocks and the rows of the steps before it.
 
-ghost use Rattle.std.specs.Prelude.{◌≡◌, ℕ, ◌+◌, ◌<◌, ◌≤◌, ◌^◌, ◌↔◌, IfOk, IfSome, IsFalse, IsTrue, MatchOption, OnOk, false, length, slice_index};
+ghost use Rattle.std.specs.Prelude.{◌≡◌, ℕ, ◌+◌, ◌<◌, ◌≤◌, ◌^◌, IfOk, IfSome, IsFalse, IsTrue, MatchOption, OnOk, false, length, slice_index};
 ghost use Rattle.mr_event.specs.Order.{step_at, thread_at, Edge, IsGreatestPartner, HasNoPartner, RacePair};
 ghost use Rattle.mr_clocks.specs.Clocks.{AreClocks, AreLatest, IsClockOf, IsMade, IsPart, IsUnder, KeepsClock, clock_at};
 ghost use Rattle.mr_clocks.specs.Rows.{AreAllAsked, ArePlacesKnown, AreRows, IsPlaceKnown, IsPlaceSeen};
@@ -8,11 +8,10 @@ ghost use Rattle.mr_clocks.specs.Skips.{AreSkips};
 ghost use Rattle.mr_clocks.specs.Tracked.{IsNext, IsPartnerOr};
 ghost use Rattle.mr_clocks.specs.Wakers.{AreSyncsUnder, AreWakers};
 
-use crate::analysis::{is_under, lent};
+use crate::analysis::lent;
 use crate::clock::Clock;
 use crate::hints::follow_hint;
 use crate::known::{are_known, are_latest_known, is_latest_known, is_place_known};
-use crate::order::are_rivals;
 use crate::rows::{Link, Row, better, follow_place, keep_walk};
 use crate::skips::Skip;
 use crate::wakers::{Wakers, follow_wakers, is_woken};
@@ -618,16 +617,6 @@ pub(crate) fn clock_of(
     walked_clock(
         alloc, run, clocks, numbers, latest, wakers, rows, links, skips, found, hint, j,
     )
-}
-
-/// Whether step `i` is a partner of step `j`, of which this is the clock.
-pub(crate) fn is_partner(run: &[Footprint], clock: &Clock, i: usize, j: usize) -> bool
-    requires order { i < j }
-    requires within { j < length run.now }
-    requires clock { IsClockOf run.now clock.now j }
-    ensures { IsTrue result ↔ RacePair run.now i j }
-{
-    !is_under(run, clock, i) && are_rivals(run, i, j)
 }
 
 // One more than the place of the greatest partner of step `j`, or 0. Of a partner's thread the latest step with an

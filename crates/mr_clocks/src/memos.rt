@@ -2,6 +2,7 @@
 //! them needs no search: of the rows that came since it looks at each, if they are few.
 
 ghost use Rattle.std.specs.Prelude.{◌≡◌, ◌≢◌, ℕ, ◌<◌, ◌≤◌, List, IfOk, IsTrue, OnOk, length, vec_len};
+ghost use Rattle.mr_event.specs.Likeness.{DoTheSame};
 ghost use Rattle.mr_clocks.specs.declared.rows.Row.{Row};
 ghost use Rattle.mr_clocks.specs.Keys.{asks as does_ask};
 ghost use Rattle.mr_clocks.specs.Marks.{AreMarked};
@@ -83,21 +84,13 @@ impl Memo {
         self.slots
     }
 
-    // Whether it has a stamp, and its step did the same as another.
-    fn serves(&self, step: &Footprint, stamp: usize) -> bool
-        ensures step { IsTrue result → self.now.0 ≡ step.now }
-        ensures stamp { IsTrue result → self.now.1 ≡ stamp }
-    {
-        self.stamp == stamp && same_step(&self.step, step)
-    }
-
     // Whether it has a stamp, and its step did the same as another, but for the threads that they woke: then the two
     // ask the same rows, and are noted in the same ones.
-    fn is_alike(&self, step: &Footprint, stamp: usize) -> bool
+    fn serves(&self, step: &Footprint, stamp: usize) -> bool
         ensures step { IsTrue result → DoTheSame self.now.0 step.now }
         ensures stamp { IsTrue result → self.now.1 ≡ stamp }
     {
-        self.stamp == stamp && do_the_same(&self.step, step)
+        self.stamp == stamp && did_the_same(&self.step, step)
     }
 
     // Whether it has a stamp of not long ago, and its step did the same as another, but for the threads that they woke.
@@ -120,6 +113,23 @@ impl Memo {
         self.stamp = rows.len() + 1;
         Ok(())
     }
+}
+
+// Whether two steps are equal. It isn't seen of a step that woke some thread.
+fn are_equal(one: &Footprint, other: &Footprint) -> bool
+    ensures { IsTrue result → one.now ≡ other.now }
+{
+    other.woken().is_empty() && same_step(one, other)
+}
+
+// Whether two steps did the same, but for the threads that they woke. Of those that woke none it is mostly soon told.
+fn did_the_same(one: &Footprint, other: &Footprint) -> bool
+    ensures { IsTrue result → DoTheSame one.now other.now }
+{
+    if are_equal(one, other) {
+        return true;
+    }
+    do_the_same(one, other)
 }
 
 // A number by which accesses of different ranges mostly differ.
@@ -279,7 +289,7 @@ fn look_further(
 {
     catch_up_at(memos, rows.as_slice(), step, slot)?;
     let kept = &memos[slot];
-    if kept.is_alike(step, rows.len() + 1) {
+    if kept.serves(step, rows.len() + 1) {
         return Ok(slot);
     }
     let memo = memo_for(alloc, index, rows, step)?;

@@ -10,11 +10,10 @@ ghost use Rattle.mr_clocks.specs.Rows.{AreLinks, AreLonger, ArePlaces, AreRows, 
 ghost use Rattle.mr_clocks.specs.Skips.{AreSkips, IsSkip};
 ghost use Rattle.mr_clocks.specs.Tracked.{IsNext, IsPartnerOr};
 
-use crate::analysis::lent;
+use crate::analysis::{is_under, lent};
 use crate::clock::Clock;
 use crate::keys::{Key, may_bind, may_race};
 use crate::known::{is_latest_known, is_place_known};
-use crate::made::is_partner;
 use crate::order::edge;
 use crate::skips::{Skip, slot_of};
 use crate::walks::{Walk, no_walk, pass};
@@ -185,14 +184,16 @@ pub(crate) fn may_lead(run: &[Footprint], row: Row, j: usize) -> bool
     row.thread != step.thread() && may_bind(row.key, step)
 }
 
-// Whether a partner of step `j` may be noted under the key.
+// Whether the row is of another thread than step `j`, which races with the range that its key names.
 #[tactic(auto, using(mr_event::proofs::Read::step_read))]
-fn may_rival(run: &[Footprint], key: Key, j: usize) -> bool
+fn may_rival(run: &[Footprint], row: Row, j: usize) -> bool
     requires { j < length run.now }
-    ensures { key_races key (step_at run.now j) ≡ true → IsTrue result }
+    ensures apart { IsTrue result → row.thread ≢ thread_at run.now j }
+    ensures raced { IsTrue result → key_races row.key (step_at run.now j) ≡ true }
+    ensures all { row.thread ≢ thread_at run.now j → key_races row.key (step_at run.now j) ≡ true → IsTrue result }
 {
     let step = &run[j];
-    may_race(key, step)
+    row.thread != step.thread() && may_race(row.key, step)
 }
 
 /// The number, or one more than the latest step of the row at a place, where that is more and a partner of step `j`.
@@ -217,15 +218,17 @@ pub(crate) fn better(
         return best;
     }
     let row = rows[x];
-    if !may_rival(run, row.key, j) {
+    if !may_rival(run, row, j) {
         return best;
     }
     let i = links[row.last as usize - 1].step as usize;
-    if best <= i && is_partner(run, clock, i, j) {
-        i + 1
-    } else {
-        best
+    if i < best {
+        return best;
     }
+    if is_under(run, clock, i) {
+        return best;
+    }
+    i + 1
 }
 
 // Before which link of a row step `j` goes: the latest, or the one before that where it keeps `j` already.

@@ -8,20 +8,20 @@ use Rattle.mr_clocks.proofs.memos.look_further.Goals as goal
 pub returns-in_err-catch_up_at-clause-memos : goal.returns-in_err-catch_up_at-clause-memos
 returns-in_err-catch_up_at-clause-memos c = subst (λ rows. AreMemos rows c.catch_up_at.new.memos.items) c.as_slice.ensures.value c.catch_up_at.ensures.memos
 
-pub returns-then-is_alike-clause-memos : goal.returns-then-is_alike-clause-memos
-returns-then-is_alike-clause-memos c = subst (λ rows. AreMemos rows c.catch_up_at.new.memos.items) c.as_slice.ensures.value c.catch_up_at.ensures.memos
+pub returns-then-serves-clause-memos : goal.returns-then-serves-clause-memos
+returns-then-serves-clause-memos c = subst (λ rows. AreMemos rows c.catch_up_at.new.memos.items) c.as_slice.ensures.value c.catch_up_at.ensures.memos
 
-pub returns-then-is_alike-clause-memo : goal.returns-then-is_alike-clause-memo
-returns-then-is_alike-clause-memo c =
+pub returns-then-serves-clause-memo : goal.returns-then-serves-clause-memo
+returns-then-serves-clause-memo c =
     let rows = c.args.rows.now.items in
     let memos = c.catch_up_at.new.memos.items in
     let slot = c.args.slot in
     let all : AreMemos rows memos = subst (λ l. AreMemos l memos) c.as_slice.ensures.value c.catch_up_at.ensures.memos in
     let inside : slot < length memos = omega (arith, c.requires.slot, c.requires.all, c.catch_up_at.ensures.all, c.catch_up_at.new.memos.ok.0) in
     let is : c.index-kept.result.now ≡ memo_at memos slot = get_or_read memos slot c.index-kept.result.now inside c.index-kept.ensures no_memo in
-    let stamp : (memo_at memos slot).1 ≡ length rows + 1 = ap (λ m. m.1) (sym is) ∙ c.is_alike.ensures.stamp c.if-is_alike.true ∙ omega (arith, c.len.ensures, c.args.rows.now.ok.0) in
+    let stamp : (memo_at memos slot).1 ≡ length rows + 1 = ap (λ m. m.1) (sym is) ∙ c.serves.ensures.stamp c.if-serves.true ∙ omega (arith, c.len.ensures, c.args.rows.now.ok.0) in
     memo_alike (memo_at memos slot).0 c.args.step.now rows (memo_at memos slot)
-    (subst (λ m. DoTheSame m.0 c.args.step.now) is (c.is_alike.ensures.step c.if-is_alike.true))
+    (subst (λ m. DoTheSame m.0 c.args.step.now) is (c.serves.ensures.step c.if-serves.true))
     (memo_exact rows (memo_at memos slot) stamp (all slot inside))
 
 pub returns-in_err-memo-clause-memos : goal.returns-in_err-memo-clause-memos
