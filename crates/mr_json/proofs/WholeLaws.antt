@@ -30,7 +30,7 @@ use Rattle.mr_listing.specs.Accesses.{own_row}
 use Rattle.mr_listing.specs.Held.{held_for}
 use Rattle.mr_listing.specs.Seen.{Seen}
 use Rattle.mr_listing.specs.Steps.{printed_by}
-use Rattle.mr_json.specs.Accesses.{access_at, access_data, access_of, accesses_data, pointing_data, value_data}
+use Rattle.mr_json.specs.Accesses.{access_at, access_data, access_of, accesses_data, pointer_data, value_data}
 use Rattle.mr_json.specs.Parts.{named_data, number_data, place_data, reached_data, spot_found}
 use Rattle.mr_json.specs.Run.{before_of, code_data, race_data, run_data, side_data}
 use Rattle.mr_json.specs.Steps.{did_data, event_data, line_data, lines_data, started_data, step_data, thread_data, woken_data}
@@ -65,13 +65,13 @@ reached_whole : (p : Program) (addr : ℕ) (row : Option Allocation) → has_flo
 reached_whole p addr None = refl
 reached_whole p addr (Some row) = named_whole p (addr - row.start) row.name
 
-pointing_whole : (s : Seen) (addr : ℕ) (id : Option AllocId) → has_float (pointing_data s addr id) ≡ false
-pointing_whole s addr None = refl
-pointing_whole s addr (Some id) = reached_whole s.program addr (own_row id (found_at addr s.rows))
+pointer_whole : (s : Seen) (addr : ℕ) (id : Option AllocId) → has_float (pointer_data s addr id) ≡ false
+pointer_whole s addr None = refl
+pointer_whole s addr (Some id) = rw (reached_whole s.program addr (own_row id (found_at addr s.rows))) refl
 
 value_whole : (s : Seen) (h : Held) → has_float (value_data s h) ≡ false
 value_whole s (held.Number n) = number_whole n
-value_whole s (held.Pointer p) = rw (pointing_whole s p.addr p.prov) refl
+value_whole s (held.Pointer p) = pointer_whole s p.addr p.prov
 value_whole s held.Nothing = refl
 value_whole s held.Untold = refl
 
@@ -108,13 +108,21 @@ did_whole : (s : Seen) (v : Option StepValues) (told : ToldStep) (foot : Option 
     → has_float (did_data s v told foot) ≡ false
 did_whole s v told None = refl
 did_whole s v told (Some foot) =
-    rw (accesses_whole s v foot.accesses, event_whole told foot.event foot.woken, started_whole s.program told.started,
-    woken_whole foot.woken) refl
+    rw (
+      accesses_whole s v foot.accesses,
+      event_whole told foot.event foot.woken,
+      started_whole s.program told.started,
+      woken_whole foot.woken,
+    ) refl
 
 step_whole : (s : Seen) (values : List StepValues) (told : ToldStep) → has_float (step_data s values told) ≡ false
 step_whole s values told =
-    rw (did_whole s (slice_get values told.number) told (slice_get s.feet told.number), number_whole (told.number + 1),
-    place_whole s told.before, lines_whole (printed_by s.lines told)) refl
+    rw (
+      did_whole s (slice_get values told.number) told (slice_get s.feet told.number),
+      number_whole (told.number + 1),
+      place_whole s told.before,
+      lines_whole (printed_by s.lines told),
+    ) refl
 
 side_whole : (s : Seen) (at : ℕ) → has_float (side_data s at) ≡ false
 side_whole s at = rw (place_whole s (before_of (slice_get s.steps at)), number_whole (at + 1)) refl
@@ -133,5 +141,9 @@ code_whole (verdict.Undefined r) = refl
 -- the value of a run has no float
 pub run_whole : (s : Seen) (values : List StepValues) → has_float (run_data s values) ≡ false
 run_whole s values =
-    rw (code_whole s.verdict, lines_whole s.lines, list_whole (race_data s) (race_whole s) s.races,
-    list_whole (step_data s values) (step_whole s values) s.steps) refl
+    rw (
+      code_whole s.verdict,
+      lines_whole s.lines,
+      list_whole (race_data s) (race_whole s) s.races,
+      list_whole (step_data s values) (step_whole s values) s.steps,
+    ) refl

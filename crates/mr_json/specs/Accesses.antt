@@ -5,7 +5,6 @@ use Rattle.serde_json.specs.Data.{Data, null, boolean, number, string, unsigned,
 use Rattle.serde_json.specs.View.{items_of}
 use Rattle.mr_base.specs.declared.access.Access.{Access}
 use Rattle.mr_base.specs.declared.byte.AllocId.{AllocId}
-use Rattle.mr_base.specs.declared.byte.Pointer.{Pointer}
 use Rattle.mr_labels.specs.Table.{found_at}
 use Rattle.mr_listing.specs.declared.held.Held.{Held}
 use Rattle.mr_listing.specs.declared.held.Held.TheVariants as held
@@ -15,20 +14,18 @@ use Rattle.mr_listing.specs.Held.{held_for}
 use Rattle.mr_listing.specs.Seen.{Seen}
 use Rattle.mr_json.specs.Parts.{number_data, reached_data}
 
--- what a pointer points to: what holds its address, where that is the allocation that it may reach
-abbrev pub pointing_data : Seen → ℕ → Option AllocId → Data
-pointing_data s addr None = null
-pointing_data s addr (Some id) = reached_data s.program addr (own_row id (found_at addr s.rows))
-
-abbrev pub pointer_data : Seen → Pointer → Data
-pointer_data s p = object
-  (member (codes "address") (number (unsigned p.addr))
-  (member (codes "to") (pointing_data s p.addr p.prov) no_members))
+-- a pointer: its address, where it may reach nothing; else that too, and what holds the address, where that is the
+-- allocation that the pointer may reach
+abbrev pub pointer_data : Seen → ℕ → Option AllocId → Data
+pointer_data s addr None = number (unsigned addr)
+pointer_data s addr (Some id) = object
+    (member (codes "address") (number (unsigned addr))
+    (member (codes "to") (reached_data s.program addr (own_row id (found_at addr s.rows))) no_members))
 
 -- WHAT IS LOADED OR STORED: a number, a pointer, `no value` where a byte is uninitialised, and null where it is not told
 abbrev pub value_data : Seen → Held → Data
 value_data s (held.Number n) = number_data n
-value_data s (held.Pointer p) = pointer_data s p
+value_data s (held.Pointer p) = pointer_data s p.addr p.prov
 value_data s held.Nothing = string (codes "no value")
 value_data s held.Untold = null
 
@@ -36,12 +33,12 @@ value_data s held.Untold = null
 -- what it loaded or stored
 abbrev pub access_data : Seen → Held → Access → Data
 access_data s h a = object
-  (member (codes "address") (number (unsigned a.addr))
-  (member (codes "atomic") (boolean a.atomic)
-  (member (codes "bytes") (number (unsigned a.len))
-  (member (codes "reached") (reached_data s.program a.addr (found_at a.addr s.rows))
-  (member (codes "store") (boolean a.store)
-  (member (codes "value") (value_data s h) no_members))))))
+    (member (codes "address") (number (unsigned a.addr))
+    (member (codes "atomic") (boolean a.atomic)
+    (member (codes "bytes") (number (unsigned a.len))
+    (member (codes "reached") (reached_data s.program a.addr (found_at a.addr s.rows))
+    (member (codes "store") (boolean a.store)
+    (member (codes "value") (value_data s h) no_members))))))
 
 -- the same of the access at a position, where there is one
 abbrev pub access_of : Seen → Option StepValues → ℕ → Option Access → Data

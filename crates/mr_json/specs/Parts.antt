@@ -21,11 +21,11 @@ number_data n = if nat_lt n (2 ^ 64) then number (unsigned n) else string (decim
 -- behind the last one stands the terminator
 abbrev pub spot_data : Program → Stand → Spot → Data
 spot_data p stand spot = object
-  (member (codes "block") (string (block_word p stand.block (slice_get p.functions stand.function)))
-  (member (codes "column") (number (unsigned spot.col))
-  (member (codes "function") (string (function_word p stand.function))
-  (member (codes "line") (number (unsigned spot.line))
-  (member (codes "statement") (number_data (stand.at + 1)) no_members)))))
+    (member (codes "block") (string (block_word p stand.block (slice_get p.functions stand.function)))
+    (member (codes "column") (number (unsigned spot.col))
+    (member (codes "function") (string (function_word p stand.function))
+    (member (codes "line") (number (unsigned spot.line))
+    (member (codes "statement") (number_data (stand.at + 1)) no_members)))))
 
 abbrev pub spot_found : Program → Stand → Option Spot → Data
 spot_found p stand None = null
@@ -40,19 +40,19 @@ place_data s (Some stand) = spot_found s.program stand (spot_at s.laid stand.fun
 -- thread runs, or the block that a step, counted from 1, allocated
 abbrev pub named_data : Program → ℕ → Name → Data
 named_data p offset (name.Function i) = object
-  (member (codes "function") (string (text_at (function_texts p) i))
-  (member (codes "offset") (number (unsigned offset)) no_members))
+    (member (codes "function") (string (text_at (function_texts p) i))
+    (member (codes "offset") (number (unsigned offset)) no_members))
 named_data p offset (name.Global i) = object
-  (member (codes "global") (string (text_at (global_texts p) i))
-  (member (codes "offset") (number (unsigned offset)) no_members))
+    (member (codes "global") (string (text_at (global_texts p) i))
+    (member (codes "offset") (number (unsigned offset)) no_members))
 named_data p offset (name.Local thread function local) = object
-  (member (codes "function") (string (function_word p function))
-  (member (codes "local") (string (local_word p local (slice_get p.functions function)))
-  (member (codes "offset") (number (unsigned offset))
-  (member (codes "thread") (number (unsigned thread)) no_members))))
+    (member (codes "function") (string (function_word p function))
+    (member (codes "local") (string (local_word p local (slice_get p.functions function)))
+    (member (codes "offset") (number (unsigned offset))
+    (member (codes "thread") (number (unsigned thread)) no_members))))
 named_data p offset (name.Heap step) = object
-  (member (codes "offset") (number (unsigned offset))
-  (member (codes "step") (number_data (step + 1)) no_members))
+    (member (codes "offset") (number (unsigned offset))
+    (member (codes "step") (number_data (step + 1)) no_members))
 
 -- what an address reaches: nothing that is known, where no allocation holds it
 abbrev pub reached_data : Program → ℕ → Option Allocation → Data

@@ -23,14 +23,14 @@ before_of (Some told) = told.before
 -- a step of a race, with its place: all steps are told, and each stands at its number
 abbrev pub side_data : Seen → ℕ → Data
 side_data s at = object
-  (member (codes "place") (place_data s (before_of (slice_get s.steps at)))
-  (member (codes "step") (number_data (at + 1)) no_members))
+    (member (codes "place") (place_data s (before_of (slice_get s.steps at)))
+    (member (codes "step") (number_data (at + 1)) no_members))
 
 -- A RACE: its two steps, the earlier one first
 abbrev pub race_data : Seen → Pair → Data
 race_data s pair = object
-  (member (codes "first") (side_data s pair.first)
-  (member (codes "second") (side_data s pair.second) no_members))
+    (member (codes "first") (side_data s pair.first)
+    (member (codes "second") (side_data s pair.second) no_members))
 
 -- the code of the reason of an undefined run
 abbrev pub code_data : Verdict → Data
@@ -41,12 +41,12 @@ code_data _ = null
 -- verdict, and the version of this form, which is 1
 abbrev pub run_data : Seen → List StepValues → Data
 run_data s values = object
-  (member (codes "code") (code_data s.verdict)
-  (member (codes "output") (lines_data s.lines)
-  (member (codes "races") (array (items_of (map (race_data s) s.races)))
-  (member (codes "steps") (array (items_of (map (step_data s values) s.steps)))
-  (member (codes "verdict") (string (verdict_text s.verdict))
-  (member (codes "version") (number (unsigned 1)) no_members))))))
+    (member (codes "code") (code_data s.verdict)
+    (member (codes "output") (lines_data s.lines)
+    (member (codes "races") (array (items_of (map (race_data s) s.races)))
+    (member (codes "steps") (array (items_of (map (step_data s values) s.steps)))
+    (member (codes "verdict") (string (verdict_text s.verdict))
+    (member (codes "version") (number (unsigned 1)) no_members))))))
 
 -- THE JSON OF A RUN: the text of that value without spaces, and a line feed
 abbrev pub json_text : Seen → List StepValues → List ℕ

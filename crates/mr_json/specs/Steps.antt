@@ -22,8 +22,8 @@ use Rattle.mr_json.specs.Parts.{number_data, place_data}
 -- A PRINT: its text, whose bytes are all of ASCII, and the thread that made it
 abbrev pub line_data : Line → Data
 line_data l = object
-  (member (codes "text") (string (utf8_lossy l.text))
-  (member (codes "thread") (number (unsigned l.thread)) no_members))
+    (member (codes "text") (string (utf8_lossy l.text))
+    (member (codes "thread") (number (unsigned l.thread)) no_members))
 
 abbrev pub lines_data : List Line → Data
 lines_data lines = array (items_of (map line_data lines))
@@ -47,8 +47,8 @@ release_word woken = if length woken == 0 then codes "frees lock" else codes "gi
 -- a deed, and the number of the lock or the thread
 abbrev pub deed_data : List ℕ → ℕ → Data
 deed_data word n = object
-  (member (codes "deed") (string word)
-  (member (codes "number") (number (unsigned n)) no_members))
+    (member (codes "deed") (string word)
+    (member (codes "number") (number (unsigned n)) no_members))
 
 abbrev pub event_data : ToldStep → Event → List ℕ → Data
 event_data told event.Quiet woken = null
@@ -77,18 +77,18 @@ woken_data woken = array (items_of (map thread_data woken))
 abbrev pub did_data : Seen → Option StepValues → ToldStep → Option Footprint → Data
 did_data s v told None = null
 did_data s v told (Some foot) = object
-  (member (codes "accesses") (accesses_data s v foot.accesses)
-  (member (codes "ends") (boolean foot.ended)
-  (member (codes "event") (event_data told foot.event foot.woken)
-  (member (codes "starts") (started_data s.program told.started)
-  (member (codes "wakes") (woken_data foot.woken) no_members)))))
+    (member (codes "accesses") (accesses_data s v foot.accesses)
+    (member (codes "ends") (boolean foot.ended)
+    (member (codes "event") (event_data told foot.event foot.woken)
+    (member (codes "starts") (started_data s.program told.started)
+    (member (codes "wakes") (woken_data foot.woken) no_members)))))
 
 -- A STEP: what it did, its number, counted from 1, where its thread stood before it, its prints, and its thread. What its
 -- accesses hold stands at its number
 abbrev pub step_data : Seen → List StepValues → ToldStep → Data
 step_data s values told = object
-  (member (codes "did") (did_data s (slice_get values told.number) told (slice_get s.feet told.number))
-  (member (codes "number") (number_data (told.number + 1))
-  (member (codes "place") (place_data s told.before)
-  (member (codes "prints") (lines_data (printed_by s.lines told))
-  (member (codes "thread") (number (unsigned told.thread)) no_members)))))
+    (member (codes "did") (did_data s (slice_get values told.number) told (slice_get s.feet told.number))
+    (member (codes "number") (number_data (told.number + 1))
+    (member (codes "place") (place_data s told.before)
+    (member (codes "prints") (lines_data (printed_by s.lines told))
+    (member (codes "thread") (number (unsigned told.thread)) no_members)))))

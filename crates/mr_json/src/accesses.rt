@@ -4,12 +4,12 @@ ghost use Rattle.mr_base.specs.Identities.{same_id};
 ghost use Rattle.mr_listing.specs.Accesses.{own_row};
 ghost use Rattle.mr_listing.specs.Held.{held_for, held_or, side_of};
 ghost use Rattle.mr_listing.specs.Seen.{seen};
-ghost use Rattle.mr_json.specs.Accesses.{access_at, access_data, accesses_data, pointer_data, pointing_data, value_data};
+ghost use Rattle.mr_json.specs.Accesses.{access_at, access_data, accesses_data, pointer_data, value_data};
 ghost use Rattle.serde_json.specs.View.{view};
 
 use crate::OutOfMemory;
 use crate::parts::{number, reached};
-use mr_base::{Access, AllocId, Pointer};
+use mr_base::{Access, AllocId};
 use mr_labels::Allocation;
 use mr_listing::{Held, Shown, StepValues};
 use serde_json::{Value, json};
@@ -31,26 +31,25 @@ fn own_row(id: AllocId, row: Option<Allocation>) -> Option<Allocation>
     }
 }
 
-// What a pointer with this provenance points to.
-fn pointing(
+// A pointer to an address.
+fn pointer(
     alloc: Global,
     shown: &Shown<'_>,
     addr: u64,
     prov: Option<AllocId>,
 ) -> Result<Value, OutOfMemory>
-    ensures { IfOk result (λ v. view v ≡ pointing_data (seen shown.now) addr prov) }
+    ensures { IfOk result (λ v. view v ≡ pointer_data (seen shown.now) addr prov) }
 {
-    match prov {
-        Some(id) => reached(alloc, shown.program, addr, own_row(id, shown.rows.found_at(addr))),
-        None => Ok(Value::Null),
-    }
-}
-
-fn pointer(alloc: Global, shown: &Shown<'_>, p: Pointer) -> Result<Value, OutOfMemory>
-    ensures { IfOk result (λ v. view v ≡ pointer_data (seen shown.now) p) }
-{
-    let to = pointing(alloc, shown, p.addr, p.prov)?;
-    json!(in alloc; { "address": p.addr, "to": to })
+    let Some(id) = prov else {
+        return Ok(Value::from(addr));
+    };
+    let to = reached(
+        alloc,
+        shown.program,
+        addr,
+        own_row(id, shown.rows.found_at(addr)),
+    )?;
+    json!(in alloc; { "address": addr, "to": to })
 }
 
 // What is loaded or stored.
@@ -59,7 +58,7 @@ fn value(alloc: Global, shown: &Shown<'_>, held: Held) -> Result<Value, OutOfMem
 {
     match held {
         Held::Number(n) => number(alloc, n),
-        Held::Pointer(p) => pointer(alloc, shown, p),
+        Held::Pointer(p) => pointer(alloc, shown, p.addr, p.prov),
         Held::Nothing => Value::try_from_str(alloc, "no value"),
         Held::Untold => Ok(Value::Null),
     }
@@ -74,7 +73,12 @@ fn access(
 ) -> Result<Value, OutOfMemory>
     ensures { IfOk result (λ v. view v ≡ access_data (seen shown.now) held access) }
 {
-    let reached = reached(alloc, shown.program, access.addr, shown.rows.found_at(access.addr))?;
+    let reached = reached(
+        alloc,
+        shown.program,
+        access.addr,
+        shown.rows.found_at(access.addr),
+    )?;
     let value = value(alloc, shown, held)?;
     json!(in alloc; {
         "address": access.addr,

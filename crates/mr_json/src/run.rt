@@ -117,11 +117,8 @@ fn run(alloc: Global, shown: &Shown<'_>, values: &[StepValues]) -> Result<Value,
 
 /// A run as one JSON object and a line feed, where all its steps are told, with what they loaded and stored, which
 /// stands at the number of each. An `Err` is for want of memory.
-pub fn json(
-    alloc: Global,
-    shown: &Shown<'_>,
-    values: &[StepValues],
-) -> Result<Vec<u8>, OutOfMemory>
+#[tactic(auto, using(crate::proofs::WholeLaws::run_whole))]
+pub fn json(alloc: Global, shown: &Shown<'_>, values: &[StepValues]) -> Result<Vec<u8>, OutOfMemory>
     ensures { IfOk result (λ text. text.items ≡ json_text (seen shown.now) values.now) }
 {
     let mut text = run(alloc, shown, values)?.to_vec(alloc)?;

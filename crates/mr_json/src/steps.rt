@@ -87,12 +87,7 @@ fn deed(alloc: Global, word: &str, n: u32) -> Result<Value, OutOfMemory>
 }
 
 // What a step did to a lock or to another thread, which woke these.
-fn event(
-    alloc: Global,
-    told: &ToldStep,
-    event: Event,
-    woken: &[u32],
-) -> Result<Value, OutOfMemory>
+fn event(alloc: Global, told: &ToldStep, event: Event, woken: &[u32]) -> Result<Value, OutOfMemory>
     ensures { IfOk result (λ v. view v ≡ event_data told.now event woken.now) }
 {
     match event {

@@ -159,11 +159,8 @@ fn rust_of(alloc: Global, part: Part, feet: &[Footprint]) -> Result<Vec<Pair>, A
 {
     match part {
         Part::TwoOrders => races_by_rust(alloc, feet),
-        Part::Steps { .. }
-        | Part::Json
-        | Part::Races
-        | Part::Order { .. }
-        | Part::Picture { .. } => Ok(Vec::new(alloc)),
+        Part::Steps { .. } | Part::Json | Part::Races | Part::Order { .. } | Part::Picture { .. } =>
+            Ok(Vec::new(alloc)),
     }
 }
 
