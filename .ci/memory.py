@@ -45,6 +45,7 @@ ALLOCATING = {
     ("joined", "match push_rows(alloc, rows, p, &told) {"),
     ("tell_behind", "match behind(alloc, machine, number, thread, told) {"),
     ("tell_step", "match told_before(alloc, machine, entry) {"),
+    ("stand_step", "match stands.push(stand) {"),
     ("walked", "match sizes_of(alloc, p.globals.as_slice()) {"),
 }
 # The answers that are made by hand: the function, the line, the one that it depends on, and the constant in that. A

@@ -18,12 +18,12 @@ ended-requires-clause-told c =
     let outcome = c.stands-outcome.result in
     let asked = sym c.requires.asked in
     let kept = c.stands-outcome.ensures.kept in
-    told_whole c.args.part c.args.text.now p c.args.v w outcome c.new-rows.result.items [] c.as_slice.result.now
+    told_whole c.args.part c.args.text.now p c.args.v w outcome c.new-rows.result.items [] c.as_slice-2.result.now
     c.stands-outcome.new.kept c.stands-outcome.ensures.answer
     (on_ok outcome (λ _. c.new-rows.ensures.items ∙ ap (λ (o : Option Between). rows_in o p w) asked) kept)
     (on_ok outcome (λ _. ap (λ (o : Option Between). steps_in o p w) asked) kept)
     (on_ok outcome
-    (λ stood. c.as_slice.ensures.value ∙ stood
+    (λ stood. c.as_slice-2.ensures.value ∙ stood
     ∙ ap (λ (xs : List (Option Stand)). xs ++ stands_of p w) c.new-stood.ensures.items
     ∙ ap (λ (o : Option Between). stands_in o p w) asked) c.stands-outcome.ensures.stood)
     kept
