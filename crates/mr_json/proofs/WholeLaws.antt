@@ -1,10 +1,10 @@
 -- The value of a run has no float, so that `serde_json` writes its text as it is defined.
-use Rattle.std.proofs.Common.{◌≡◌, ℕ, ◌+◌, ◌-◌, ◌^◌, List, [], ◌∷◌, map, Bool, true, false, nat_lt, length, decimal, Option, None, Some, slice_get, refl}
+use Rattle.std.proofs.Common.{◌≡◌, ℕ, ◌+◌, ◌-◌, ◌^◌, List, [], ◌∷◌, map, Bool, true, false, nat_lt, length, decimal, Option, None, Some, slice_get, refl, ap, subst, ◌∙◌, ◌++◌}
 use Rattle.std.specs.Prelude.{if◌then◌else◌}
 use Rattle.std.specs.List.{range_with_len}
 use Rattle.serde_json.specs.Data.{Data, number, string, unsigned}
 use Rattle.serde_json.specs.View.{items_of}
-use Rattle.serde_json.specs.Written.{has_float, items_have_float}
+use Rattle.serde_json.specs.Written.{compact_text, has_float, items_have_float}
 use Rattle.mr_ast.specs.declared.program.Program.{Program}
 use Rattle.mr_base.specs.declared.access.Access.{Access}
 use Rattle.mr_base.specs.declared.byte.AllocId.{AllocId}
@@ -32,7 +32,7 @@ use Rattle.mr_listing.specs.Seen.{Seen}
 use Rattle.mr_listing.specs.Steps.{printed_by}
 use Rattle.mr_json.specs.Accesses.{access_at, access_data, access_of, accesses_data, pointer_data, value_data}
 use Rattle.mr_json.specs.Parts.{named_data, number_data, place_data, reached_data, spot_found}
-use Rattle.mr_json.specs.Run.{before_of, code_data, race_data, run_data, side_data}
+use Rattle.mr_json.specs.Run.{before_of, code_data, json_text, race_data, run_data, side_data}
 use Rattle.mr_json.specs.Steps.{did_data, event_data, line_data, lines_data, started_data, step_data, thread_data, woken_data}
 
 either_whole : (c : Bool) (a b : Data) → has_float a ≡ false → has_float b ≡ false → has_float (if c then a else b) ≡ false
@@ -147,3 +147,10 @@ run_whole s values =
       list_whole (race_data s) (race_whole s) s.races,
       list_whole (step_data s values) (step_whole s values) s.steps,
     ) refl
+
+-- ITS TEXT, with a line feed behind it
+pub whole_text : (s : Seen) (values : List StepValues) (d : Data) (text now : List ℕ) → d ≡ run_data s values
+    → (has_float d ≡ false → text ≡ compact_text d) → now ≡ text ++ 10 ∷ [] → now ≡ json_text s values
+whole_text s values d text now is written grown =
+    let told = subst (λ (x : Data). has_float x ≡ false → text ≡ compact_text x) is written in
+    grown ∙ ap (λ t. t ++ 10 ∷ []) (told (run_whole s values))

@@ -36,6 +36,12 @@ abbrev pub place_data : Seen → Option Stand → Data
 place_data s None = null
 place_data s (Some stand) = spot_found s.program stand (spot_at s.laid stand.function stand.block stand.at)
 
+-- so many bytes behind the first of the block that a step, counted from 1, allocated
+abbrev pub block_data : ℕ → ℕ → Data
+block_data offset step = object
+    (member (codes "offset") (number (unsigned offset))
+    (member (codes "step") (number_data (step + 1)) no_members))
+
 -- AN ADDRESS IN AN ALLOCATION, so many bytes behind its first one: in a function, a global, a local of a function that a
 -- thread runs, or the block that a step, counted from 1, allocated
 abbrev pub named_data : Program → ℕ → Name → Data
@@ -50,9 +56,7 @@ named_data p offset (name.Local thread function local) = object
     (member (codes "local") (string (local_word p local (slice_get p.functions function)))
     (member (codes "offset") (number (unsigned offset))
     (member (codes "thread") (number (unsigned thread)) no_members))))
-named_data p offset (name.Heap step) = object
-    (member (codes "offset") (number (unsigned offset))
-    (member (codes "step") (number_data (step + 1)) no_members))
+named_data p offset (name.Heap step) = block_data offset step
 
 -- what an address reaches: nothing that is known, where no allocation holds it
 abbrev pub reached_data : Program → ℕ → Option Allocation → Data

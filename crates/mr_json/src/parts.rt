@@ -1,12 +1,10 @@
 //! Numbers, places and names, as they stand in the JSON of a run.
 ghost use Rattle.std.specs.Prelude.{◌≡◌, IfOk, slice_get};
-ghost use Rattle.mr_ast.specs.declared.program.Program.{Program};
 ghost use Rattle.mr_ast.specs.Canon.{function_texts, global_texts};
 ghost use Rattle.mr_ast.specs.CanonValues.{text_at};
-ghost use Rattle.mr_labels.specs.declared.names.Name.TheVariants as name;
 ghost use Rattle.mr_labels.specs.Words.{local_word};
 ghost use Rattle.mr_listing.specs.Seen.{seen};
-ghost use Rattle.mr_json.specs.Parts.{named_data, number_data, place_data, reached_data, spot_data};
+ghost use Rattle.mr_json.specs.Parts.{block_data, named_data, number_data, place_data, reached_data, spot_data};
 ghost use Rattle.serde_json.specs.View.{view};
 
 use crate::OutOfMemory;
@@ -115,7 +113,7 @@ fn named(alloc: Global, p: &Program, offset: u64, name: Name) -> Result<Value, O
 
 // An address in the block that a step allocated.
 fn block(alloc: Global, offset: u64, step: usize) -> Result<Value, OutOfMemory>
-    ensures { (p : Program) → IfOk result (λ v. view v ≡ named_data p offset (name.Heap step)) }
+    ensures { IfOk result (λ v. view v ≡ block_data offset step) }
 {
     let step = number(alloc, step as u128 + 1)?;
     json!(in alloc; { "offset": offset, "step": step })

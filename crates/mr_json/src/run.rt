@@ -1,5 +1,5 @@
 //! The JSON of a run.
-ghost use Rattle.std.specs.Prelude.{◌≡◌, IfOk, map, slice_get, string_bytes};
+ghost use Rattle.std.specs.Prelude.{◌≡◌, ◌++◌, IfOk, codes, decimal, map, slice_get, string_bytes};
 ghost use Rattle.mr_listing.specs.Seen.{seen};
 ghost use Rattle.mr_json.specs.Run.{before_of, code_data, json_text, race_data, run_data, side_data};
 ghost use Rattle.mr_json.specs.Steps.{step_data};
@@ -80,6 +80,14 @@ fn code(verdict: Verdict) -> Value
     }
 }
 
+// What the verdict of an undefined run is called.
+fn undefined(alloc: Global, code: u16, name: &str) -> Result<String, OutOfMemory>
+    ensures { IfOk result
+        (λ text. string_bytes text ≡ codes "undefined " ++ decimal code ++ codes " " ++ name.now) }
+{
+    format!(in alloc; "undefined {code} {name}")
+}
+
 // What a verdict is called.
 fn word(alloc: Global, verdict: Verdict) -> Result<String, OutOfMemory>
     ensures { IfOk result (λ text. string_bytes text ≡ verdict_text verdict) }
@@ -90,10 +98,7 @@ fn word(alloc: Global, verdict: Verdict) -> Result<String, OutOfMemory>
         Verdict::Leak => String::from_str(alloc, "leak"),
         Verdict::Abort => String::from_str(alloc, "abort"),
         Verdict::Deadlock => String::from_str(alloc, "deadlock"),
-        Verdict::Undefined(reason) => {
-            let (code, name) = (reason.code(), reason.name());
-            format!(in alloc; "undefined {code} {name}")
-        }
+        Verdict::Undefined(reason) => undefined(alloc, reason.code(), reason.name()),
     }
 }
 
@@ -117,7 +122,6 @@ fn run(alloc: Global, shown: &Shown<'_>, values: &[StepValues]) -> Result<Value,
 
 /// A run as one JSON object and a line feed, where all its steps are told, with what they loaded and stored, which
 /// stands at the number of each. An `Err` is for want of memory.
-#[tactic(auto, using(crate::proofs::WholeLaws::run_whole))]
 pub fn json(alloc: Global, shown: &Shown<'_>, values: &[StepValues]) -> Result<Vec<u8>, OutOfMemory>
     ensures { IfOk result (λ text. text.items ≡ json_text (seen shown.now) values.now) }
 {
