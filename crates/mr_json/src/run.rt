@@ -10,6 +10,7 @@ ghost use Rattle.serde_json.specs.View.{items_of, view};
 use crate::OutOfMemory;
 use crate::parts::{number, place};
 use crate::steps::{lines, step};
+use itoa::Buffer;
 use mr_base::Verdict;
 use mr_event::Pair;
 use mr_labels::{Stand, ToldStep};
@@ -85,7 +86,12 @@ fn undefined(alloc: Global, code: u16, name: &str) -> Result<String, OutOfMemory
     ensures { IfOk result
         (λ text. string_bytes text ≡ codes "undefined " ++ decimal code ++ codes " " ++ name.now) }
 {
-    format!(in alloc; "undefined {code} {name}")
+    let mut buffer = Buffer::new();
+    let mut text = String::from_str(alloc, "undefined ")?;
+    text.push_str(buffer.format(code))?;
+    text.push_str(" ")?;
+    text.push_str(name)?;
+    Ok(text)
 }
 
 // What a verdict is called.

@@ -7,5 +7,5 @@ use Rattle.mr_json.proofs.accesses.accesses.Goals as goal
 pub loop-at-preserved : goal.loop-at-preserved
 loop-at-preserved c =
     viewed_next (access_at (seen c.args.shown.now) (option_copied c.args.values) c.args.accesses.now)
-    c.loop-at.list.items c.push.new.list.items c.in_ok-access_at.field-0 c.loop-at.at c.in_ok-push.ensures.items
+    c.loop-at.list.items c.push.new.self.items c.in_ok-access_at.field-0 c.loop-at.at c.in_ok-push.ensures.items
     c.loop-at.invariant c.in_ok-access_at.ensures
