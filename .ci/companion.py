@@ -7,6 +7,7 @@
   next one of the text, and behind a `goto` at the block's first; the prints, the verdict, and the count of the races are those of `mirace run`,
   and each step has the partners that the report lists. The races by pairs of places are made once more from the steps.
   A part of the steps is that part of all.
+- The JSON of each of these runs, beside its listing and its report (json_form.py).
 - What an undefined run speaks of, beside its reason and its steps (spoken.py).
 - How runs go on, and what orders become (going_on.py).
 - The pictures of the pages, and those of runs beside their listings and their footprints (pictures.py).
@@ -27,6 +28,7 @@ import time
 sys.dont_write_bytecode = True
 import codes  # noqa: E402
 import going_on  # noqa: E402
+import json_form  # noqa: E402
 import limits  # noqa: E402
 import pictures  # noqa: E402
 import spoken  # noqa: E402
@@ -39,7 +41,7 @@ EXAMPLES = f"{TOP}/examples"
 CLASS = f"{EXAMPLES}/class"
 CASES = f"{TOP}/crates/mirace_cases/data"
 STORED = f"{TOP}/crates/mirace_cases/stdout"
-USAGE = b"usage: steps P S [FIRST LAST] | races P S | rust P S | picture P S [FIRST LAST] | order P S FIRST LAST | races T PLACES | rust T [PLACES] | steps T PLACES [FIRST LAST] | steps T FIRST LAST | picture T PLACES [FIRST LAST] | next P S | check P [S] | fill P O | halt P O | hunt P FROM TO M [AIM] | draw P N M | why CODE | --help\n"
+USAGE = b"usage: steps P S [FIRST LAST] | json P S | races P S | rust P S | picture P S [FIRST LAST] | order P S FIRST LAST | races T PLACES | rust T [PLACES] | steps T PLACES [FIRST LAST] | steps T FIRST LAST | picture T PLACES [FIRST LAST] | next P S | check P [S] | fill P O | halt P O | hunt P FROM TO M [AIM] | draw P N M | why CODE | --help\n"
 # The most seconds that a long run may take, on a slow machine.
 PATIENCE = 40
 # The line of a step, with its number, its thread, its place, its function, its block and its statement.
@@ -107,12 +109,12 @@ def cases(at):
     yield "0, all steps", ["steps", example("exit.mr"), example("exit.sched")], exit_steps, 0
     yield "0, no race", ["races", example("exit.mr"), example("exit.sched")], b"races 0\n", 0
     yield "1, a number that is no code", ["why", "10"], b"no rule, no fault and no reason has the number 10\n", 1
-    for form in ("steps", "races", "rust", "picture", "next", "fill", "halt"):
+    for form in ("steps", "json", "races", "rust", "picture", "next", "fill", "halt"):
         yield f"3, a text, {form}", [form, example("unknown-name.mr"), "missing"], b"text 4 18 5 UnknownName\n", 3
         yield f"4, a program, {form}", [form, example("ill-formed.mr"), "missing"], b"form main b0 2 32 BlockKind\n", 4
-        if form in ("steps", "races", "rust", "picture"):
+        if form in ("steps", "json", "races", "rust", "picture"):
             yield f"5, a rule, {form}", [form, example("print.mr"), example("print-reused.sched")], b"schedule 3 64 Reused 0 0\n", 5
-        if form in ("steps", "races", "rust", "picture", "next"):
+        if form in ("steps", "json", "races", "rust", "picture", "next"):
             yield f"5, an empty text, {form}", [form, example("print.mr"), "empty"], b"schedule 1 50 BadHeader\n", 5
         else:
             yield f"5, a word that is no turn, {form}", [form, example("print.mr"), "words"], b"schedule 2 51 BadLine\n", 5
@@ -170,7 +172,7 @@ def statuses(judge, at):
     pair = [f"{EXAMPLES}/exit.mr", f"{EXAMPLES}/exit.sched"]
     numbers = [["steps", *pair, *it] for it in (["1"], ["1", "x"], ["01", "2"], ["1", str(1 << 32)], ["-1", "2"], ["1", "2", "3"])]
     numbers += [["picture", *it[1:]] for it in numbers]
-    few = [[], ["steps"], ["races", pair[0]], ["next"], ["check"], ["check", *pair, "1"], ["fill", pair[0]], ["halt", *pair, "1"], ["why"], ["why", ""], ["why", "066"], ["why", str(1 << 16)], ["why", "66", "67"]]
+    few = [[], ["steps"], ["json", pair[0]], ["json", *pair, "1", "2"], ["races", pair[0]], ["next"], ["check"], ["check", *pair, "1"], ["fill", pair[0]], ["halt", *pair, "1"], ["why"], ["why", ""], ["why", "066"], ["why", str(1 << 16)], ["why", "66", "67"]]
     others = [["run", *pair], ["races", *pair, "1", "2"], ["rust", *pair, "1", "2"], ["rust"], ["--version"], ["help"], ["--help", "steps"], ["run", "--help"]]
     for words in (*numbers, *few, *others):
         wrote, ended = ran(words, at)
@@ -180,7 +182,7 @@ def statuses(judge, at):
 def helps(judge, at):
     """The text of each help begins with its form, in lines of at most 120 bytes, and names no other."""
     for words, first in (([], b"mirace_show steps P S [FIRST LAST]   "), (["steps"], b"mirace_show steps P S [FIRST LAST]\n"),
-                         (["races"], b"mirace_show races P S\n"), (["rust"], b"mirace_show rust P S\n"), (["picture"], b"mirace_show picture P S [FIRST LAST]\n"), (["next"], b"mirace_show next P S\n"), (["check"], b"mirace_show check P [S]\n"),
+                         (["json"], b"mirace_show json P S\n"), (["races"], b"mirace_show races P S\n"), (["rust"], b"mirace_show rust P S\n"), (["picture"], b"mirace_show picture P S [FIRST LAST]\n"), (["next"], b"mirace_show next P S\n"), (["check"], b"mirace_show check P [S]\n"),
                          (["fill"], b"mirace_show fill P O | halt P O\n"), (["halt"], b"mirace_show fill P O | halt P O\n"), (["hunt"], b"mirace_show hunt P FROM TO M [AIM]\n"), (["draw"], b"mirace_show hunt P FROM TO M [AIM]\n"), (["order"], b"mirace_show order P S FIRST LAST\n"),
                          (["why"], b"mirace_show why CODE\n")):
         wrote, ended = ran([*words, "--help"], at)
@@ -203,7 +205,7 @@ def each_code(judge, at):
 def refused_writes(judge, at):
     """Status 7: a pipe that nobody reads, and a full device."""
     pair = [f"{EXAMPLES}/race.mr", f"{EXAMPLES}/race.sched"]
-    for words in (["steps", *pair], ["races", *pair], ["rust", *pair], ["picture", *pair], ["next", *pair], ["check", *pair], ["fill", pair[0], "turns"], ["why", "66"], ["--help"], ["walk"], ["races", "missing", "missing"]):
+    for words in (["steps", *pair], ["json", *pair], ["races", *pair], ["rust", *pair], ["picture", *pair], ["next", *pair], ["check", *pair], ["fill", pair[0], "turns"], ["why", "66"], ["--help"], ["walk"], ["races", "missing", "missing"]):
         end, begin = os.pipe()
         os.close(end)
         ended = subprocess.run([COMPANION, *words], cwd=at, stdout=begin, timeout=60).returncode
@@ -503,6 +505,9 @@ def listing(judge, script, program, schedule, report, status, at):
     judge(f"{what}: its races by places", grouped == (by_places(steps, pairs), status), short(grouped[0]))
     a_part(judge, what, ["steps", program, schedule], steps, tail, at)
     a_picture(judge, what, program, schedule, status, steps, feet, pairs, at)
+    as_json = ran(["json", program, schedule], at)
+    judge(f"{what}: the status of its JSON", as_json[1] == status, f"{as_json[1]}")
+    json_form.compare(judge, what, as_json[0], source, steps, feet, report)
     return steps, feet, speaks
 
 

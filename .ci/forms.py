@@ -32,7 +32,7 @@ start 16 4096
 0
 0
 """
-USAGE = ("usage: steps P S [FIRST LAST] | races P S | rust P S | picture P S [FIRST LAST] | "
+USAGE = ("usage: steps P S [FIRST LAST] | json P S | races P S | rust P S | picture P S [FIRST LAST] | "
          "order P S FIRST LAST | races T PLACES | rust T [PLACES] | steps T PLACES [FIRST LAST] | "
          "steps T FIRST LAST | picture T PLACES [FIRST LAST] | "
          "next P S | check P [S] | fill P O | halt P O | hunt P FROM TO M [AIM] | draw P N M | why CODE | --help\n")
@@ -41,6 +41,9 @@ step 1 ended the run
 verdict exit
 races 0
 """
+EXITS_JSON = (
+    '{"code":null,"output":[],"races":[],"steps":[{"did":null,"number":1,"place":{"block":"b0","column":13,'
+    '"function":"main","line":4,"statement":1},"prints":[],"thread":0}],"verdict":"exit","version":1}\n')
 NO_STEP = """step 1 ended the run
 verdict exit
 races 0
@@ -99,6 +102,9 @@ ANSWERED = (
     ("steps P S 2 9", NO_STEP, 0),
     ("steps P S 1 0", NO_STEP, 0),
     ("steps P S 4294967295 4294967295", NO_STEP, 0),
+    ("json P S", EXITS_JSON, 0),
+    ("json Q S", "read program\n", 6),
+    ("json P Q", "read schedule\n", 6),
     ("races P S", "races 0\n", 0),
     ("rust P S", NO_RUST, 0),
     ("rust Q S", "read program\n", 6),
@@ -133,6 +139,8 @@ ANSWERED = (
     ("check Q Q", "read program\n", 6),
     ("check P Q", "read schedule\n", 6),
 )
+# A trace without steps.
+NO_TRACED = "MRTR\1\0\0\0\0"
 ONE_ADDRESS = "schedule 1\nstart 16\n0\n"
 # A program, a schedule, words, and what refuses them, with the status.
 REFUSED = (
@@ -143,6 +151,8 @@ REFUSED = (
     (ILL_FORMED, SCHEDULE, "rust P Q", "form main b0 0 32 BlockKind\n", 4),
     (EXIT, TOO_FAR, "races P S", "schedule 4 66 AfterStop\n", 5),
     (EXIT, TOO_FAR, "rust P S", "schedule 4 66 AfterStop\n", 5),
+    (EXIT, TOO_FAR, "json P S", "schedule 4 66 AfterStop\n", 5),
+    (NO_TRACED, SCHEDULE, "json P S", "text 1 1 4 Unexpected\n", 3),
     (EXIT, EXIT, "steps P S", "schedule 1 50 BadHeader\n", 5),
     ("minirust !\n", SCHEDULE, "check P", BAD_BYTE, 3),
     ("minirust !\n", SCHEDULE, "check P S", BAD_BYTE, 3),
@@ -154,8 +164,6 @@ REFUSED = (
     (EXIT, TOO_FAR, "check P S", AFTER_STOP, 5),
     (EXIT, ONE_ADDRESS, "check P S", MISSING_PICK, 5),
 )
-# A trace without steps.
-NO_TRACED = "MRTR\1\0\0\0\0"
 # A trace, places, words of forms over them, and what is written, with the status.
 TRACED = (
     (NO_TRACED, "places 2\n", "races P S", "races 0\n", 0),
@@ -200,6 +208,7 @@ ORDERS = (
 # Words of no form.
 FORMLESS = (
     "", "steps", "steps P", "steps P S 1", "steps P S 1 x", "steps P S 1 4294967296", "steps P S 01 2", "races P S 1 2",
+    "json", "json P", "json P S 1", "json P S 1 2", "jsons P S",
     "races P 1 2", "steps P 1 4294967296",
     "rust", "rust P S 1", "rust P S 1 2", "rusts P S", "hunt P 0 3 1 rusty", "hunt P 0 3 1 rust 1",
     "picture P S 1", "run P S", "--helps", "next P", "fill P", "why", "why 65536", "why Nothing", "why badnumber", "whys 66",

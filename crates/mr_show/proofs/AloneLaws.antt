@@ -35,7 +35,7 @@ use Rattle.mr_input.specs.Answer.{Answer}
 use Rattle.mr_replay.specs.Spoken.{spoken_of}
 use Rattle.mr_replay.specs.Stands.{stands_of}
 use Rattle.mr_show.specs.declared.form.Part.{Part}
-use Rattle.mr_show.specs.declared.form.Part.TheVariants.{Order, Picture, Races, Steps, TwoOrders}
+use Rattle.mr_show.specs.declared.form.Part.TheVariants.{Json, Order, Picture, Races, Steps, TwoOrders}
 use Rattle.mr_show.specs.Answer.{lists_races, part_answer}
 use Rattle.mr_show.specs.Answering.{IsToldAs}
 use Rattle.mr_show.specs.Gathered.{gathered}
@@ -139,5 +139,6 @@ module _ (text : List ℕ) (p : Program) (w : Schedule) (alone : are_of_first w.
   alone_told (Ok m) run TwoOrders is =
       ap (λ (c : Config Own). part_answer TwoOrders (spoken_of p w) [] (without c)) run.config ∙ orders_told (run_of p w)
   alone_told (Ok m) run (Steps from to) is = absurd (cc)
+  alone_told (Ok m) run Json is = absurd (cc)
   alone_told (Ok m) run (Order first second) is = absurd (cc)
   alone_told (Ok m) run (Picture asked) is = absurd (cc)

@@ -27,6 +27,7 @@ use Rattle.mr_replay.specs.Stands.{stands_of}
 use Rattle.mr_replay.specs.Told.{if_between, told_steps}
 use Rattle.mr_picture.specs.declared.span.Span.{Span}
 use Rattle.mr_listing.specs.declared.held.StepValues.{StepValues}
+use Rattle.mr_json.specs.Run.{json_text}
 use Rattle.mr_listing.specs.Races.{races_text}
 use Rattle.mr_listing.specs.Seen.{Seen}
 use Rattle.mr_listing.specs.Spoken.{spoken_line}
@@ -39,7 +40,7 @@ use Rattle.mr_two_orders.specs.Texts.{two_orders_text}
 use Rattle.mr_event.specs.Footprint.{Footprint}
 use Rattle.mr_event.specs.declared.footprint.Pair.{Pair}
 use Rattle.mr_show.specs.declared.form.Part.{Part}
-use Rattle.mr_show.specs.declared.form.Part.TheVariants.{Order, Picture, Races, Steps, TwoOrders}
+use Rattle.mr_show.specs.declared.form.Part.TheVariants.{Json, Order, Picture, Races, Steps, TwoOrders}
 use Rattle.mr_show.specs.declared.form.Saying.{Saying}
 use Rattle.mr_show.specs.declared.form.Saying.TheVariants.{Next, OfOrder, OfRun}
 use Rattle.mr_show.specs.declared.form.Telling.{Telling}
@@ -63,9 +64,10 @@ abbrev pub drawn_between : Option Span → Between
 drawn_between None = record { from = 0; to = 2 ^ 22 }
 drawn_between (Some span) = record { from = span.from; to = span.to }
 
--- the steps that are told for a part; races and an order ask for none, but for where the threads of all steps stood
+-- the steps that are told for a part, for JSON all; races and an order ask for none, but for where the threads of all steps stood
 abbrev pub told_for : Part → Option Between
 told_for (Steps from to) = Some (record { from = from; to = to })
+told_for Json = Some (record { from = 0; to = 2 ^ 22 })
 told_for Races = None
 told_for TwoOrders = None
 told_for (Order first second) = None
@@ -88,6 +90,7 @@ abbrev pub lists_races : Part → Bool
 lists_races Races = true
 lists_races TwoOrders = true
 lists_races (Steps from to) = false
+lists_races Json = false
 lists_races (Order first second) = false
 lists_races (Picture asked) = false
 
@@ -109,6 +112,7 @@ run_seen part text p w =
 -- what the accesses of a run loaded and stored that has these allocations and footprints, where a part tells it
 abbrev pub part_values : Part → Program → Schedule → List Allocation → List Footprint → List StepValues
 part_values (Steps from to) p w rows feet = run_values p w rows feet (record { from = from; to = to })
+part_values Json p w rows feet = run_values p w rows feet (record { from = 0; to = 2 ^ 22 })
 part_values Races p w rows feet = []
 part_values TwoOrders p w rows feet = []
 part_values (Order first second) p w rows feet = []
@@ -123,6 +127,7 @@ told_values part p w = part_values part p w (rows_in (told_for part) p w) (steps
 -- of
 abbrev pub part_text : Part → Option Reached → List StepValues → Seen → List ℕ
 part_text (Steps from to) spoken values s = steps_text s values ++ reason_text s.verdict ++ spoken_line s spoken
+part_text Json spoken values s = json_text s values
 part_text Races spoken values s = races_text s
 part_text TwoOrders spoken values s = two_orders_text s
 part_text (Order first second) spoken values s = order_text s first second
@@ -131,6 +136,7 @@ part_text (Picture asked) spoken values s = picture_text s asked
 -- the races by Rust's order, where a part tells of them
 abbrev pub rust_of : Part → List Footprint → List Pair
 rust_of (Steps from to) feet = []
+rust_of Json feet = []
 rust_of Races feet = []
 rust_of TwoOrders feet = rust_races feet
 rust_of (Order first second) feet = []
@@ -215,7 +221,8 @@ why_answer code (Some entry) = said_answer entry
 abbrev pub usage : Answer
 usage = record {
   text = line (
-      codes "usage: steps P S [FIRST LAST] | races P S | rust P S | picture P S [FIRST LAST] | "
+      codes "usage: steps P S [FIRST LAST] | json P S | races P S | rust P S | "
+      ++ codes "picture P S [FIRST LAST] | "
       ++ codes "order P S FIRST LAST | races T PLACES | rust T [PLACES] | steps T PLACES [FIRST LAST] | "
       ++ codes "steps T FIRST LAST | picture T PLACES [FIRST LAST] | "
       ++ codes "next P S | check P [S] | fill P O | halt P O | hunt P FROM TO M [AIM] | draw P N M | why CODE | --help"

@@ -11,7 +11,7 @@ use Rattle.mr_why.specs.Why.{Entry, entry_of}
 use Rattle.mr_show.specs.declared.form.Form.{Form as Words}
 use Rattle.mr_show.specs.declared.form.Form.TheVariants as words
 use Rattle.mr_show.specs.declared.form.Part.{Part}
-use Rattle.mr_show.specs.declared.form.Part.TheVariants.{Order, Picture, Races, Steps, TwoOrders}
+use Rattle.mr_show.specs.declared.form.Part.TheVariants.{Json, Order, Picture, Races, Steps, TwoOrders}
 use Rattle.mr_show.specs.declared.form.Alone.{Alone}
 use Rattle.mr_show.specs.declared.form.Alone.TheVariants as alone
 use Rattle.mr_show.specs.declared.form.Range.{Range}
@@ -21,10 +21,10 @@ use Rattle.mr_show.specs.declared.form.Saying.TheVariants.{Next, OfOrder, OfRun}
 use Rattle.mr_show.specs.declared.form.Filling.TheVariants.{Halt, Schedule}
 use Rattle.mr_show.specs.declared.form.Topic.{Topic}
 use Rattle.mr_show.specs.declared.form.Topic.TheVariants.{Everything, OfCheck, OfFill, OfHunt, OfNext, OfOrdered}
-use Rattle.mr_show.specs.declared.form.Topic.TheVariants.{OfPicture, OfRaces, OfRust, OfSteps, OfWhy}
+use Rattle.mr_show.specs.declared.form.Topic.TheVariants.{OfJson, OfPicture, OfRaces, OfRust, OfSteps, OfWhy}
 
 -- What is asked for: what is said of the run of the program in one file under the schedule in another, which is a part
--- of it, its steps from one number up to another, its races by pairs of places, also by two orders, or a picture of it, or how it can go on;
+-- of it, its steps from one number up to another, all of it as JSON, its races by pairs of places, also by two orders, or a picture of it, or how it can go on;
 -- or what the order in another becomes, which is a schedule, or where it can't go on; which ends the runs of some
 -- numbers have, or the first of these runs that has what is looked for, or the schedule of a number; the steps of a
 -- trace; what refuses the program in a file, or a schedule of it in another, told by the names of the files; what is
@@ -42,6 +42,7 @@ pub data Form : Type 0 where
 abbrev pub help_of : List ℕ → Option Form
 help_of word =
     if bytes_eq word (codes "steps") then Some (Help OfSteps)
+    else (if bytes_eq word (codes "json") then Some (Help OfJson)
     else (if bytes_eq word (codes "races") then Some (Help OfRaces)
     else (if bytes_eq word (codes "rust") then Some (Help OfRust)
     else (if bytes_eq word (codes "picture") then Some (Help OfPicture)
@@ -52,7 +53,7 @@ help_of word =
     else (if bytes_eq word (codes "hunt") then Some (Help OfHunt)
     else (if bytes_eq word (codes "draw") then Some (Help OfHunt)
     else (if bytes_eq word (codes "order") then Some (Help OfOrdered)
-    else (if bytes_eq word (codes "why") then Some (Help OfWhy) else None)))))))))))
+    else (if bytes_eq word (codes "why") then Some (Help OfWhy) else None))))))))))))
 
 -- whether this is the name of a code
 abbrev pub is_name_of : List ℕ → Option Entry → Bool
@@ -78,17 +79,18 @@ two_of word second =
     else (if bytes_eq word (codes "check") then Some (CheckedProgram second second)
     else (if bytes_eq word (codes "rust") then Some (Bare alone.TwoOrders second) else None))
 
--- all steps, the races, those by two orders, the picture of those about the first race, or how the run can go on; what an order becomes, or
+-- all steps, all as JSON, the races, those by two orders, the picture of those about the first race, or how the run can go on; what an order becomes, or
 -- where it can't go on
 abbrev pub whole_of : List ℕ → List ℕ → List ℕ → Option Form
 whole_of word program schedule =
     if bytes_eq word (codes "steps") then Some (Shown (OfRun (Steps 0 (2 ^ 22))) program schedule)
+    else (if bytes_eq word (codes "json") then Some (Shown (OfRun Json) program schedule)
     else (if bytes_eq word (codes "races") then Some (Shown (OfRun Races) program schedule)
     else (if bytes_eq word (codes "rust") then Some (Shown (OfRun TwoOrders) program schedule)
     else (if bytes_eq word (codes "picture") then Some (Shown (OfRun (Picture None)) program schedule)
     else (if bytes_eq word (codes "next") then Some (Shown Next program schedule)
     else (if bytes_eq word (codes "fill") then Some (Shown (OfOrder Schedule) program schedule)
-    else (if bytes_eq word (codes "halt") then Some (Shown (OfOrder Halt) program schedule) else None))))))
+    else (if bytes_eq word (codes "halt") then Some (Shown (OfOrder Halt) program schedule) else None)))))))
 
 -- what refuses the schedule in a file or its program in another, or what is said of the two
 abbrev pub three_form : List ℕ → List ℕ → List ℕ → Option Form
@@ -200,12 +202,12 @@ long_form word program third fourth fifth (aim ∷ text ∷ []) =
     aimed_of word program (word_range third fourth fifth) (two_aim aim text)
 long_form word program third fourth fifth _ = None
 
--- `steps P S`, `steps P S FIRST LAST`, `races P S`, `rust P S`, `picture P S`, `picture P S FIRST LAST`,
+-- `steps P S`, `steps P S FIRST LAST`, `json P S`, `races P S`, `rust P S`, `picture P S`, `picture P S FIRST LAST`,
 -- `order P S FIRST LAST`, `next P S`, `rust T` and `steps T FIRST LAST`, where FIRST and LAST are below 2^32;
 -- `fill P O` and `halt P O`;
 -- `hunt P FROM TO M`, where FROM is at most TO, both are below 2^64, and M is at most 2^20, and an aim behind it;
 -- `draw P N M`, with such numbers; `check P` and `check P S`; `why CODE`, where CODE is below 2^16 or the name of a
--- code; `--help`, and that behind `steps`, `races`, `rust`, `picture`, `order`, `next`, `check`, `fill`, `halt`,
+-- code; `--help`, and that behind `steps`, `json`, `races`, `rust`, `picture`, `order`, `next`, `check`, `fill`, `halt`,
 -- `hunt`, `draw` or `why`; and no other form
 abbrev pub form_of : List (List ℕ) → Option Form
 form_of (word ∷ []) = if bytes_eq word (codes "--help") then Some (Help Everything) else None

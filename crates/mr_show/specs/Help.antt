@@ -3,12 +3,13 @@ use Rattle.std.specs.Prelude.{ℕ, List, ◌++◌, codes}
 use Rattle.mr_report.specs.Report.{line}
 use Rattle.mr_show.specs.declared.form.Topic.{Topic}
 use Rattle.mr_show.specs.declared.form.Topic.TheVariants.{Everything, OfCheck, OfFill, OfHunt, OfNext, OfOrdered}
-use Rattle.mr_show.specs.declared.form.Topic.TheVariants.{OfPicture, OfRaces, OfRust, OfSteps, OfWhy}
+use Rattle.mr_show.specs.declared.form.Topic.TheVariants.{OfJson, OfPicture, OfRaces, OfRust, OfSteps, OfWhy}
 
 -- with each form
 abbrev pub help_text : Topic → List ℕ
 help_text Everything =
     line (codes "mirace_show steps P S [FIRST LAST]   the steps of a run, each at its place in the program's text")
+    ++ line (codes "mirace_show json P S                 a run as JSON, for tools")
     ++ line (codes "mirace_show races P S                the races of a run by pairs of places")
     ++ line (codes "mirace_show picture P S [FIRST LAST] a picture of a run, as an SVG document")
     ++ line (codes "mirace_show order P S FIRST LAST     how two steps of a run are ordered, edge by edge")
@@ -46,10 +47,10 @@ help_text Everything =
     )
     ++ line (codes "of the places of its steps.")
     ++ line (
-    codes "With --help behind one of the words steps, races, rust, picture, order, next, check, "
-    ++ codes "fill, halt, hunt,"
+    codes "With --help behind one of the words steps, json, races, rust, picture, order, next, "
+    ++ codes "check, fill, halt,"
     )
-    ++ line (codes "draw and why it tells more.")
+    ++ line (codes "hunt, draw and why it tells more.")
 help_text OfSteps =
     line (codes "mirace_show steps P S [FIRST LAST]")
     ++ line (
@@ -80,6 +81,17 @@ help_text OfSteps =
     codes "it loaded and stored, and the steps with which it races. At the end stands how "
     ++ codes "many races there are."
     )
+help_text OfJson =
+    line (codes "mirace_show json P S")
+    ++ line (
+    codes "Runs the program in file P under the schedule in file S, and writes the run as "
+    ++ codes "one JSON object on a line:"
+    )
+    ++ line (
+    codes "what it printed, its steps with their places and what they did, loaded and "
+    ++ codes "stored, its races with the"
+    )
+    ++ line (codes "places of their two steps, and its verdict. docs/run.schema.json says which form it has.")
 help_text OfRaces =
     line (codes "mirace_show races P S")
     ++ line (

@@ -20,6 +20,8 @@ use mr_why::entry;
 pub enum Part {
     /// Its steps from one number up to another, counted from 0, the last one left out.
     Steps { from: usize, to: usize },
+    /// All of it as JSON.
+    Json,
     /// Its races by pairs of places.
     Races,
     /// Its races by two orders, Rust's and the machine's.
@@ -77,6 +79,7 @@ pub enum Alone {
 pub enum Topic {
     Everything,
     OfSteps,
+    OfJson,
     OfRaces,
     OfRust,
     OfPicture,
@@ -155,6 +158,9 @@ fn help_of<'a>(word: &str) -> Option<Form<'a>>
     match word {
         "steps" => Some(Form::Help {
             topic: Topic::OfSteps,
+        }),
+        "json" => Some(Form::Help {
+            topic: Topic::OfJson,
         }),
         "races" => Some(Form::Help {
             topic: Topic::OfRaces,
@@ -238,12 +244,13 @@ fn two_of<'a>(word: &str, second: &'a str) -> Option<Form<'a>>
     }
 }
 
-// `steps P S`, `races P S`, `rust P S`, `picture P S`, `next P S`, `fill P O` and `halt P O`.
+// `steps P S`, `json P S`, `races P S`, `rust P S`, `picture P S`, `next P S`, `fill P O` and `halt P O`.
 fn whole_of<'a>(word: &str, program: &'a str, schedule: &'a str) -> Option<Form<'a>>
     ensures { option_map asked result ≡ whole_of word.now program.now schedule.now }
 {
     let saying = match word {
         "steps" => Saying::OfRun(Part::Steps { from: 0, to: ALL }),
+        "json" => Saying::OfRun(Part::Json),
         "races" => Saying::OfRun(Part::Races),
         "rust" => Saying::OfRun(Part::TwoOrders),
         "picture" => Saying::OfRun(Part::Picture { asked: None }),

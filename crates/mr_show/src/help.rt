@@ -6,6 +6,7 @@ use crate::form::Topic;
 
 const EVERYTHING: &[u8] = b"\
 mirace_show steps P S [FIRST LAST]   the steps of a run, each at its place in the program's text
+mirace_show json P S                 a run as JSON, for tools
 mirace_show races P S                the races of a run by pairs of places
 mirace_show picture P S [FIRST LAST] a picture of a run, as an SVG document
 mirace_show order P S FIRST LAST     how two steps of a run are ordered, edge by edge
@@ -24,8 +25,8 @@ mirace_show draw P N M               the schedule of at most M entries that is d
 mirace_show why CODE                 what is said of a code of a rule, a fault or a reason
 P is the file of a program, S that of a schedule, O that of an order, T that of a trace, and PLACES that
 of the places of its steps.
-With --help behind one of the words steps, races, rust, picture, order, next, check, fill, halt, hunt,
-draw and why it tells more.
+With --help behind one of the words steps, json, races, rust, picture, order, next, check, fill, halt,
+hunt, draw and why it tells more.
 ";
 
 const OF_STEPS: &[u8] = b"\
@@ -40,6 +41,13 @@ mirace_show steps T PLACES [FIRST LAST] | steps T FIRST LAST
 Writes a line for each step of the trace in file T, which begins with MRTR: its number, its thread, and the
 place and the variable that file PLACES tells of it. Below it stand what it did to locks and threads, what
 it loaded and stored, and the steps with which it races. At the end stands how many races there are.
+";
+
+const OF_JSON: &[u8] = b"\
+mirace_show json P S
+Runs the program in file P under the schedule in file S, and writes the run as one JSON object on a line:
+what it printed, its steps with their places and what they did, loaded and stored, its races with the
+places of their two steps, and its verdict. docs/run.schema.json says which form it has.
 ";
 
 const OF_RACES: &[u8] = b"\
@@ -128,6 +136,7 @@ pub(crate) fn help_text(topic: Topic) -> &'static [u8]
     match topic {
         Topic::Everything => EVERYTHING,
         Topic::OfSteps => OF_STEPS,
+        Topic::OfJson => OF_JSON,
         Topic::OfRaces => OF_RACES,
         Topic::OfRust => OF_RUST,
         Topic::OfPicture => OF_PICTURE,

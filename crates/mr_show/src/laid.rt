@@ -14,13 +14,14 @@ ghost use Rattle.mr_listing.specs.Steps.{steps_text};
 ghost use Rattle.mr_show.specs.Gathered.{gathered};
 ghost use Rattle.mr_show.specs.Sentences.{reason_text};
 
-use crate::form::Part;
+use crate::form::{ALL, Part};
 use crate::placed::places_of;
 use crate::sentences::push_reason;
 use mr_answer::{lines_of, status_of};
 use mr_clocks::Analysis;
 use mr_event::{Footprint, Pair};
 use mr_input::Written;
+use mr_json::json;
 use mr_labels::{Allocation, Allocations, Reached, Stand, ToldStep};
 use mr_listing::{Shown, StepValues, push_spoken, races, steps};
 use mr_picture::{order_text, picture};
@@ -104,6 +105,7 @@ fn values_of(
 {
     match part {
         Part::Steps { from, to } => values(alloc, p, w, rows, feet, Between { from, to }),
+        Part::Json => values(alloc, p, w, rows, feet, Between { from: 0, to: ALL }),
         Part::Races | Part::TwoOrders | Part::Order { .. } | Part::Picture { .. } => {
             Ok(Vec::new(alloc))
         }
@@ -157,9 +159,8 @@ fn rust_of(alloc: Global, part: Part, feet: &[Footprint]) -> Result<Vec<Pair>, A
 {
     match part {
         Part::TwoOrders => races_by_rust(alloc, feet),
-        Part::Steps { .. } | Part::Races | Part::Order { .. } | Part::Picture { .. } => {
-            Ok(Vec::new(alloc))
-        }
+        Part::Steps { .. } | Part::Json | Part::Races | Part::Order { .. } | Part::Picture { .. } =>
+            Ok(Vec::new(alloc)),
     }
 }
 
@@ -182,6 +183,7 @@ fn text_of(
 {
     match part {
         Part::Steps { from: _, to: _ } => steps_of(alloc, spoken, values, shown),
+        Part::Json => json(alloc, shown, values),
         Part::Races => races(alloc, shown),
         Part::TwoOrders => two_orders(alloc, shown, order, rust),
         Part::Order { first, second } => order_text(alloc, shown, order, first, second),

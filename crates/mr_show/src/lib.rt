@@ -1,12 +1,12 @@
 //! The body of `mirace_show`'s top call: a run as people read it.
 //!
-//! - [`mirace_show`]: does what the words ask for: `steps P S [FIRST LAST]`, `races P S`, `rust P S`, `picture P S [FIRST LAST]`,
-//!   `order P S FIRST LAST`, `races T PLACES`, `rust T [PLACES]`, `steps T PLACES [FIRST LAST]`, `steps T FIRST LAST`,
+//! - [`mirace_show`]: does what the words ask for: `steps P S [FIRST LAST]`, `json P S`, `races P S`, `rust P S`,
+//!   `picture P S [FIRST LAST]`, `order P S FIRST LAST`, `races T PLACES`, `rust T [PLACES]`, `steps T PLACES [FIRST LAST]`, `steps T FIRST LAST`,
 //!   `picture T PLACES [FIRST LAST]`, `next P S`, `check P [S]`, `fill P O`, `halt P O`, `hunt P FROM TO M [AIM]`,
 //!   `draw P N M`, `why CODE` or `--help`. Over files that tell what they hold: what is written is the answer by
 //!   definition (`specs/Answer.antt`), or a read failed, which the files counted, or memory ran out before anything was
 //!   written. Of a program and a legal schedule of it the answer is the text of its run (`mr_listing`): of the steps of
-//!   the machine, each at its place in the program's text, or of its races, also by Rust's own order (`mr_two_orders`);
+//!   the machine, each at its place in the program's text, all of it as JSON (`mr_json`), or of its races, also by Rust's own order (`mr_two_orders`);
 //!   or its picture, or how two of its steps are ordered (`mr_picture`); of a trace its races, its steps or its picture
 //!   (`mr_traced`), where the first file of `races`, `rust`, `steps` or `picture` holds one; of a program, or of a schedule of it, what refuses it (`mr_refusals`); of
 //!   a code it is what is said of the rule or the reason (`mr_why`); of many numbers what the runs that are drawn from
@@ -46,7 +46,7 @@ use mr_io::{Files, Sink};
 use std::alloc::Global;
 
 const USAGE: &[u8] = b"\
-usage: steps P S [FIRST LAST] | races P S | rust P S | picture P S [FIRST LAST] | \
+usage: steps P S [FIRST LAST] | json P S | races P S | rust P S | picture P S [FIRST LAST] | \
 order P S FIRST LAST | races T PLACES | rust T [PLACES] | steps T PLACES [FIRST LAST] | \
 steps T FIRST LAST | picture T PLACES [FIRST LAST] | \
 next P S | check P [S] | fill P O | halt P O | hunt P FROM TO M [AIM] | draw P N M | why CODE | --help

@@ -211,12 +211,13 @@ fn drawn_between(asked: Option<Span>) -> Between
     }
 }
 
-// The steps that are told for a part: none for races and for an order.
+// The steps that are told for a part: all for JSON, none for races and for an order.
 fn told_for(part: Part) -> Option<Between>
     ensures { result ≡ told_for part }
 {
     match part {
         Part::Steps { from, to } => Some(Between { from, to }),
+        Part::Json => Some(Between { from: 0, to: ALL }),
         Part::Races | Part::TwoOrders | Part::Order { .. } => None,
         Part::Picture { asked } => Some(drawn_between(asked)),
     }
@@ -322,7 +323,7 @@ fn lists_races(part: Part) -> bool
 {
     match part {
         Part::Races | Part::TwoOrders => true,
-        Part::Steps { .. } | Part::Order { .. } | Part::Picture { .. } => false,
+        Part::Steps { .. } | Part::Json | Part::Order { .. } | Part::Picture { .. } => false,
     }
 }
 

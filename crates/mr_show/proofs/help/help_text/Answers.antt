@@ -7,6 +7,9 @@ returns-in-Everything c = rw c.in-Everything.is refl
 pub returns-in-OfSteps : goal.returns-in-OfSteps
 returns-in-OfSteps c = rw c.in-OfSteps.is refl
 
+pub returns-in-OfJson : goal.returns-in-OfJson
+returns-in-OfJson c = rw c.in-OfJson.is refl
+
 pub returns-in-OfRaces : goal.returns-in-OfRaces
 returns-in-OfRaces c = rw c.in-OfRaces.is refl
 

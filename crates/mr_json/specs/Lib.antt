@@ -1,0 +1,4 @@
+pub mod Accesses
+pub mod Parts
+pub mod Run
+pub mod Steps
