@@ -152,7 +152,7 @@ REFUSED = (
     (EXIT, TOO_FAR, "races P S", "schedule 4 66 AfterStop\n", 5),
     (EXIT, TOO_FAR, "rust P S", "schedule 4 66 AfterStop\n", 5),
     (EXIT, TOO_FAR, "json P S", "schedule 4 66 AfterStop\n", 5),
-    (NO_TRACED, SCHEDULE, "json P S", "text 1 1 4 Unexpected\n", 3),
+    (NO_TRACED, SCHEDULE, "json P S", "text 1 5 1 BadByte\n", 3),
     (EXIT, EXIT, "steps P S", "schedule 1 50 BadHeader\n", 5),
     ("minirust !\n", SCHEDULE, "check P", BAD_BYTE, 3),
     ("minirust !\n", SCHEDULE, "check P S", BAD_BYTE, 3),
