@@ -9,7 +9,7 @@ use Rattle.mr_sched.specs.declared.chooser.Chooser.{Chooser}
 use Rattle.mr_sched.specs.declared.schedule.Ask.{Ask}
 use Rattle.mr_sched.specs.declared.schedule.Entry.{Entry}
 use Rattle.mr_sched.specs.declared.schedule.Schedule.{Schedule}
-use Rattle.mr_start.specs.ThreadSteps.{thread_step}
+use Rattle.mr_start.specs.Steps.{thread_step}
 use Rattle.mr_typing.specs.Walk.{WellFormed}
 use Rattle.mr_run.specs.Runs.{IsRun}
 use Rattle.mr_start.specs.Runs.{Legal, run_of, steps_of}

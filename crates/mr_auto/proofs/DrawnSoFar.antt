@@ -15,7 +15,7 @@ use Rattle.mr_step.specs.PlanQueries.{Shared}
 use Rattle.mr_step.specs.PlanRuns.{Config, after, after_bare, feet, foot_from, has_rule, is_ill_formed, is_running, machine_step, stepped_from}
 use Rattle.mr_step.proofs.PlanRunLaws.{completed_by_step}
 use Rattle.mr_start.specs.FrameFrames.{Look}
-use Rattle.mr_start.specs.ThreadSteps.{Own, thread_step}
+use Rattle.mr_start.specs.Steps.{Own, thread_step}
 use Rattle.mr_start.specs.Runs.{program_fault, program_step}
 use Rattle.mr_step.specs.Standing.{Standing}
 use Rattle.mr_run.specs.Runs.{IsMade, foot_by}

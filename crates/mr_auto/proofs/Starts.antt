@@ -20,7 +20,7 @@ use Rattle.mr_step.specs.PlanMachine.{State}
 use Rattle.mr_step.proofs.PlanElementLaws.{Contains-nil}
 use Rattle.mr_step.proofs.PlanIdentityCases.{id_cases}
 use Rattle.mr_step.proofs.PlanMemoryFacts.{Ranged}
-use Rattle.mr_start.specs.ThreadSteps.{Own}
+use Rattle.mr_start.specs.Steps.{Own}
 use Rattle.mr_start.specs.Start.{Piece, ask_of, behind_store, filled, global_bytes, look_of, pieces, placed, start_config, start_fault, start_memory, start_placed}
 use Rattle.mr_step.specs.SwapMeets.{IsTaken, ranges_after}
 use Rattle.mr_step.proofs.SwapMeetsLaws.{after_only, legal_of_meets, taken_in, taken_of_memory}

@@ -17,9 +17,9 @@ use Rattle.mr_step.specs.PlanRuns.{AreLegal, Config, after_bare, entry_fault, fa
 use Rattle.mr_step.proofs.PlanElementLaws.{Contains-nil}
 use Rattle.mr_start.specs.FrameFits.{IsLook}
 use Rattle.mr_start.specs.FrameFrames.{Look}
-use Rattle.mr_start.specs.ThreadSteps.{Own, thread_step}
-use Rattle.mr_start.proofs.ThreadRunSound.{entry_sound}
-use Rattle.mr_start.specs.ThreadSoundState.{IsSoundConfig}
+use Rattle.mr_start.specs.Steps.{Own, thread_step}
+use Rattle.mr_start.proofs.RunSound.{entry_sound}
+use Rattle.mr_start.specs.SoundState.{IsSoundConfig}
 use Rattle.mr_step.proofs.ExchangeSane.{sound_is_sane}
 use Rattle.mr_step.proofs.ExchangeTelling.{thread_step_tells}
 use Rattle.mr_step.specs.SwapMeets.{AreNewIn, IsTaken, addresses}
@@ -103,7 +103,7 @@ module _ (look : Look) (s : State Own) (c : Chooser) (next : Next) (d : DrawnIn 
       ∙ legal_of_meets s.shared.statuses (ranges_of s.shared.memory) d.thread count n.asks d.picks.picks drawn_picks.meets
 
   -- behind the step memory has what it had, and what was picked
-  module _ (program : Rattle.mr_ast.specs.declared.program.Program.Program) (sound : Rattle.mr_start.specs.ThreadSoundState.SoundState program s) where
+  module _ (program : Rattle.mr_ast.specs.declared.program.Program.Program) (sound : Rattle.mr_start.specs.SoundState.SoundState program s) where
     pub taken_behind : (n : Notes) (s' : State Own) → bare (thread_step look) s d.thread d.picks.picks ≡ Completed n s' → (q : ℕ × ℕ) → IsTaken (ranges_of s'.shared.memory) q → EndsBy d.picks.chooser.next q
     taken_behind n s' e q h =
         let k = taken (thread_step look) s d.thread d.picks.picks n s' e in

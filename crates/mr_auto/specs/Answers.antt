@@ -6,7 +6,7 @@ use Rattle.mr_sched.specs.declared.schedule.Ask.TheVariants.{Address, Waiter}
 use Rattle.mr_sched.specs.declared.schedule.Entry.{Entry}
 use Rattle.mr_step.specs.PlanRuns.{Config, is_running}
 use Rattle.mr_step.specs.PlanMachine.{State}
-use Rattle.mr_start.specs.ThreadSteps.{Own}
+use Rattle.mr_start.specs.Steps.{Own}
 use Rattle.mr_auto.specs.Drawing.{Next, Picked}
 
 -- addresses alone are asked for

@@ -17,7 +17,7 @@ use Rattle.mr_step.specs.PlanLegal.{Fault, creation_fault}
 use Rattle.mr_step.specs.PlanMachine.{State, needs}
 use Rattle.mr_step.specs.PlanRuns.{Config, is_running}
 use Rattle.mr_start.specs.FrameFrames.{Look}
-use Rattle.mr_start.specs.ThreadSteps.{Own, thread_step}
+use Rattle.mr_start.specs.Steps.{Own, thread_step}
 use Rattle.mr_start.specs.Runs.{program_step}
 use Rattle.mr_start.specs.Start.{ask_of, look_of, pieces, start_config}
 

@@ -9,8 +9,8 @@ use Rattle.mr_step.specs.PlanMachine.{State}
 use Rattle.mr_step.specs.PlanRuns.{Config, after}
 use Rattle.mr_start.specs.FrameFits.{IsLook}
 use Rattle.mr_step.specs.SwapMeets.{IsTaken}
-use Rattle.mr_start.specs.ThreadSteps.{Own, thread_step}
-use Rattle.mr_start.specs.ThreadSoundState.{IsSoundConfig}
+use Rattle.mr_start.specs.Steps.{Own, thread_step}
+use Rattle.mr_start.specs.SoundState.{IsSoundConfig}
 use Rattle.mr_step.specs.Standing.{Standing}
 use Rattle.mr_auto.specs.Answers.{HasState}
 use Rattle.mr_auto.specs.Drawing.{drawn_entries}

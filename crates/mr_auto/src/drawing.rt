@@ -6,7 +6,7 @@ ghost use Rattle.mr_sync.specs.Tables.{IsEnabled};
 ghost use Rattle.mr_step.specs.PlanRuns.{feet};
 ghost use Rattle.mr_run.specs.Runs.{IsRun};
 ghost use Rattle.mr_start.specs.Runs.{steps_of};
-ghost use Rattle.mr_start.specs.ThreadSteps.{Own, thread_step};
+ghost use Rattle.mr_start.specs.Steps.{Own, thread_step};
 ghost use Rattle.mr_typing.specs.Walk.{WellFormed};
 ghost use Rattle.mr_auto.specs.Answers.{HasState, NextAnswer};
 ghost use Rattle.mr_auto.specs.Drawing.{drawn_schedule, entry_from, next_at};

@@ -2,7 +2,7 @@
 ghost use Rattle.std.specs.Prelude.{◌≡◌, [], ◌∷◌, IfOk, Some};
 ghost use Rattle.mr_step.specs.PlanMachine.{State};
 ghost use Rattle.mr_sched.specs.Chooser.{behind_address, behind_draw};
-ghost use Rattle.mr_start.specs.ThreadSteps.{Own};
+ghost use Rattle.mr_start.specs.Steps.{Own};
 ghost use Rattle.mr_auto.specs.Answers.{AreAddresses, PickAnswer, PicksAnswer};
 ghost use Rattle.mr_auto.specs.Drawing.{behind_pick, found, pick_of, picked};
 ghost use Rattle.mr_base.specs.declared.thread.Status.TheVariants.{Enabled};

@@ -1,5 +1,6 @@
 pub mod CallLaws
 pub mod DiscSafe
+pub mod Division
 pub mod EvalRuns
 pub mod EvaluationLaws
 pub mod Examples
@@ -8,6 +9,7 @@ pub mod ExprWeights
 pub mod ExtendsLaws
 pub mod FoundFits
 pub mod GivesLaws
+pub mod IntegerLaws
 pub mod LoadRuns
 pub mod NumberLaws
 pub mod OperatorsSafe
@@ -18,6 +20,7 @@ pub mod ReadLength
 pub mod RecastLaws
 pub mod ReferRuns
 pub mod RefusedLaws
+pub mod Residues
 pub mod RowRuns
 pub mod SafeLaws
 pub mod SafeRuns
@@ -27,5 +30,7 @@ pub mod SearchRuns
 pub mod ShapeOf
 pub mod SoundParts
 pub mod TargetLaws
+pub mod Widths
+pub mod Within
 pub use Rattle.mr_value.proofs.DecodeShape as ValueDecodeShape
 pub use Rattle.mr_value.proofs.EncodeLength as ValueEncodeLength

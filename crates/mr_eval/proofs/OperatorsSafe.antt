@@ -15,18 +15,18 @@ use Rattle.mr_ast.specs.declared.expr.BinaryOp.TheVariants as binary
 use Rattle.mr_ast.specs.declared.expr.UnaryOp.{UnaryOp}
 use Rattle.mr_ast.specs.declared.expr.UnaryOp.TheVariants as unary
 use Rattle.mr_base.specs.declared.byte.Pointer.{Pointer}
-use Rattle.mr_intops.specs.declared.arithmetic.ArithOp.{ArithOp}
-use Rattle.mr_intops.specs.declared.arithmetic.ArithOp.TheVariants as arith_op
-use Rattle.mr_intops.specs.declared.comparisons.CmpOp.{CmpOp}
-use Rattle.mr_intops.specs.declared.comparisons.CmpOp.TheVariants as cmp_op
-use Rattle.mr_intops.specs.declared.shifts.ShiftOp.{ShiftOp}
-use Rattle.mr_intops.specs.declared.shifts.ShiftOp.TheVariants as shift_op
-use Rattle.mr_intops.specs.Arith.{arith_of, overflowing_of}
-use Rattle.mr_intops.specs.Cast.{cast_of, invert_of, negate_of}
-use Rattle.mr_intops.specs.Compare.{compare_of}
-use Rattle.mr_intops.specs.Numbers.{value_of}
-use Rattle.mr_intops.specs.Shift.{shift_of}
-use Rattle.mr_intops.proofs.Within.{arith_of-within, bits_for-lt, invert_of-lt, overflowing_of-within, shift_of-within}
+use Rattle.mr_eval.specs.declared.arithmetic.ArithOp.{ArithOp}
+use Rattle.mr_eval.specs.declared.arithmetic.ArithOp.TheVariants as arith_op
+use Rattle.mr_eval.specs.declared.comparisons.CmpOp.{CmpOp}
+use Rattle.mr_eval.specs.declared.comparisons.CmpOp.TheVariants as cmp_op
+use Rattle.mr_eval.specs.declared.shifts.ShiftOp.{ShiftOp}
+use Rattle.mr_eval.specs.declared.shifts.ShiftOp.TheVariants as shift_op
+use Rattle.mr_eval.specs.Arith.{arith_of, overflowing_of}
+use Rattle.mr_eval.specs.Cast.{cast_of, invert_of, negate_of}
+use Rattle.mr_eval.specs.Compare.{compare_of}
+use Rattle.mr_eval.specs.Numbers.{value_of}
+use Rattle.mr_eval.specs.Shift.{shift_of}
+use Rattle.mr_eval.proofs.Within.{arith_of-within, bits_for-lt, invert_of-lt, overflowing_of-within, shift_of-within}
 use Rattle.mr_value.specs.declared.val.Val.{Val, out-Val}
 use Rattle.mr_value.specs.declared.val.Val.TheOpen.{Val-F}
 use Rattle.mr_value.specs.declared.val.Val.TheVariants as val

@@ -8,13 +8,13 @@ use Rattle.mr_base.specs.Script.{Done, Undefined, ◌>>=◌}
 use Rattle.mr_base.specs.Stops.{plainly, speaks}
 use Rattle.mr_base.specs.declared.reason.Reason.{Reason}
 use Rattle.mr_base.specs.declared.reason.Reason.TheVariants.{DivOverflow, Overflow, ShiftAmount, ZeroDivisor}
-use Rattle.mr_intops.specs.declared.arithmetic.ArithOp.{ArithOp}
-use Rattle.mr_intops.specs.declared.arithmetic.ArithOp.TheVariants.{Add, AddUnchecked, And, Div, Mul, MulUnchecked, Or, Rem, Sub, SubUnchecked, Xor}
-use Rattle.mr_intops.specs.declared.shifts.ShiftOp.{ShiftOp}
-use Rattle.mr_intops.specs.declared.shifts.ShiftOp.TheVariants.{Shl, ShlUnchecked, Shr, ShrUnchecked}
-use Rattle.mr_intops.specs.Arith.{arith_of, if_quotient_defined, unless_overflow}
-use Rattle.mr_intops.specs.Numbers.{bits_for, value_of}
-use Rattle.mr_intops.specs.Shift.{is_amount, shift_of}
+use Rattle.mr_eval.specs.declared.arithmetic.ArithOp.{ArithOp}
+use Rattle.mr_eval.specs.declared.arithmetic.ArithOp.TheVariants.{Add, AddUnchecked, And, Div, Mul, MulUnchecked, Or, Rem, Sub, SubUnchecked, Xor}
+use Rattle.mr_eval.specs.declared.shifts.ShiftOp.{ShiftOp}
+use Rattle.mr_eval.specs.declared.shifts.ShiftOp.TheVariants.{Shl, ShlUnchecked, Shr, ShrUnchecked}
+use Rattle.mr_eval.specs.Arith.{arith_of, if_quotient_defined, unless_overflow}
+use Rattle.mr_eval.specs.Numbers.{bits_for, value_of}
+use Rattle.mr_eval.specs.Shift.{is_amount, shift_of}
 use Rattle.mr_value.specs.declared.val.Val.{Val}
 use Rattle.mr_value.specs.declared.val.Val.TheOpen.{Val-F}
 use Rattle.mr_value.specs.declared.val.Val.TheVariants as val

@@ -1,10 +1,10 @@
 //! The kinds of binary operators.
 ghost use Rattle.std.specs.Prelude.{◌≡◌};
-ghost use Rattle.mr_intops.specs.Arith.{HasOverflowing};
+ghost use Rattle.mr_eval.specs.Arith.{HasOverflowing};
 ghost use Rattle.mr_eval.specs.Operators.{exact, kind_of};
 
+use crate::{ArithOp, CmpOp, ShiftOp};
 use mr_ast::BinaryOp;
-use mr_intops::{ArithOp, CmpOp, ShiftOp};
 
 /// An operator that tells whether its result wrapped.
 #[derive(Clone, Copy)]

@@ -1,4 +1,4 @@
-//! The evaluation of places and values, and the typed load and store. (MiniRust, lang: evaluation of expressions, typed accesses.)
+//! The evaluation of places and values, the operators on integers, and the typed load and store. (MiniRust, lang: evaluation of expressions, typed accesses.)
 //!
 //! What an expression is evaluated to is defined as a script that asks memory (`specs/Evaluation.antt`, `specs/Typed.antt`,
 //! `specs/Operators.antt`, `specs/Moves.antt`): range checks and loads, one after the other, each noted with its access and with the
@@ -14,6 +14,11 @@
 //! - [`store_typed`]: the store of a value of a type's shape. A refused one changes no memory. [`store_bytes`] and [`store_uninit`] do
 //!   the same with bytes and with uninitialised ones.
 //! - [`behind`]: a pointer so many bytes behind another, around the end of the address space.
+//! - [`arith`], [`overflowing`], [`shift`], [`compare`], [`cast`], [`negate`], [`invert`]: the operators on integers, over their
+//!   bits in two's complement. The bits of a number stand in a `u128`, with zeros above the width of its type. The answer is
+//!   the one that `specs/` defines among the unbounded integers (`Arith`, `Shift`, `Compare`, `Cast`), cut to the width of the
+//!   type, or the reason why the operation is undefined behaviour; by `proofs/Within.antt` it is bits of the type. They take
+//!   no memory.
 //!
 //! Where one is refused, its script stops with the reason and with the bytes that it speaks of (`specs/Stops.antt` of `mr_base`).
 //! The call tells the reason, and [`Notes`] have the bytes that were refused last.
@@ -22,7 +27,11 @@
 //! refusal is undefined behaviour of the program, or want of memory.
 #![tactic(auto)]
 
+mod arithmetic;
+mod bits;
 mod calls;
+mod casts;
+mod comparisons;
 mod env;
 mod evaluating;
 mod halt;
@@ -39,11 +48,15 @@ mod recasting;
 mod scalars;
 mod scene;
 mod search;
+mod shifts;
 mod stores;
 mod targets;
 mod valuing;
 
+pub use arithmetic::{ArithOp, arith, overflowing};
 pub use calls::{load_typed, place, store_typed, value};
+pub use casts::{cast, invert, negate};
+pub use comparisons::{CmpOp, compare};
 pub use env::Env;
 pub use loading::load_scalar;
 pub use moving::behind;
@@ -51,4 +64,5 @@ pub use mr_mem::Fault;
 pub use notes::Notes;
 pub use scalars::{Scalar, scalar_of};
 pub use scene::Scene;
+pub use shifts::{ShiftOp, shift};
 pub use stores::{store_bytes, store_uninit};

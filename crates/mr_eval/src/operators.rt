@@ -11,8 +11,8 @@ use crate::halt::Halt;
 use crate::kinds::{OverflowOp, exact};
 use crate::moving::behind;
 use crate::operands::{left_in, pointer_in, right_in};
+use crate::{ArithOp, CmpOp, ShiftOp};
 use mr_ast::{IntType, UnaryOp};
-use mr_intops::{ArithOp, CmpOp, ShiftOp};
 use mr_value::{Items, Val};
 use std::alloc::Global;
 
@@ -33,7 +33,7 @@ fn arith_bits(op: ArithOp, int: IntType, x: u128, y: u128, a: &Val) -> Result<Va
     requires right { y < 2 ^ bits_of int }
     ensures { Says same result (arith_like op int x y (out-Val a.now)) }
 {
-    match mr_intops::arith(op, int, x, y) {
+    match crate::arith(op, int, x, y) {
         Ok(bits) => like(a, bits),
         Err(reason) => Err(Halt::Undefined(reason)),
     }
@@ -58,7 +58,7 @@ fn shift_bits(op: ShiftOp, int: IntType, x: u128, by: IntType, y: u128) -> Resul
     requires right { y < 2 ^ bits_of by }
     ensures { Says same result (shift_like op int x by y) }
 {
-    match mr_intops::shift(op, int, x, by, y) {
+    match crate::shift(op, int, x, by, y) {
         Ok(bits) => Ok(Val::Int(bits)),
         Err(reason) => Err(Halt::Undefined(reason)),
     }
@@ -86,7 +86,7 @@ pub fn compare(op: CmpOp, left: Option<IntType>, a: &Val, b: &Val) -> Result<Val
 {
     match left_in(a, left) {
         Some((int, x)) => match right_in(int, b) {
-            Some(y) => Ok(Val::Bool(mr_intops::compare(op, int, x, y))),
+            Some(y) => Ok(Val::Bool(crate::compare(op, int, x, y))),
             None => Err(Halt::IllFormed),
         },
         None => Err(Halt::IllFormed),
@@ -115,7 +115,7 @@ pub fn overflowing(
 {
     match left_in(a, left) {
         Some((int, x)) => match right_in(int, b) {
-            Some(y) => with_flag(alloc, mr_intops::overflowing(exact(op), int, x, y)),
+            Some(y) => with_flag(alloc, crate::overflowing(exact(op), int, x, y)),
             None => Err(Halt::IllFormed),
         },
         None => Err(Halt::IllFormed),
@@ -155,8 +155,8 @@ fn unary_bits(op: UnaryOp, int: IntType, bits: u128) -> u128
     ensures { result ≡ unary_bits op int bits }
 {
     match op {
-        UnaryOp::Neg => mr_intops::negate(int, bits),
-        UnaryOp::Not => mr_intops::invert(int, bits),
+        UnaryOp::Neg => crate::negate(int, bits),
+        UnaryOp::Not => crate::invert(int, bits),
     }
 }
 
@@ -165,7 +165,7 @@ pub fn cast(to: IntType, told: Option<IntType>, v: &Val) -> Result<Val, Halt>
     ensures { Says same result (cast_layer to told (out-Val v.now)) }
 {
     match left_in(v, told) {
-        Some((from, bits)) => Ok(Val::Int(mr_intops::cast(from, to, bits))),
+        Some((from, bits)) => Ok(Val::Int(crate::cast(from, to, bits))),
         None => Err(Halt::IllFormed),
     }
 }

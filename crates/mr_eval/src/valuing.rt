@@ -8,7 +8,7 @@ ghost use Rattle.mr_value.specs.declared.val.Val.{out-Val};
 ghost use Rattle.mr_value.specs.declared.val.Val.TheVariants as val;
 ghost use Rattle.mr_base.specs.Script.{Done, run};
 ghost use Rattle.mr_ast.specs.declared.types.IntType.TheVariants.{I64};
-ghost use Rattle.mr_intops.specs.Numbers.{value_of};
+ghost use Rattle.mr_eval.specs.Numbers.{value_of};
 ghost use Rattle.mr_eval.specs.declared.kinds.Operator.TheVariants.{Moving};
 ghost use Rattle.mr_eval.specs.Answers.{Extends, FieldShaped, Gives, Says, same, seen, value_in};
 ghost use Rattle.mr_eval.specs.Evaluated.{disc_at, read_typed, transmuted_to};

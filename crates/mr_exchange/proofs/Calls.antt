@@ -16,13 +16,13 @@ use Rattle.mr_base.specs.Script.{Done, Undefined, IllFormed, ◌>>=◌}
 use Rattle.mr_start.specs.EvalEvaluation.{value_script}
 use Rattle.mr_start.specs.EvalMemoryQueries.{reading_part}
 use Rattle.mr_start.specs.EvalOperators.{pointer_of_value}
-use Rattle.mr_swap.proofs.PlanQuietRuns.{reading_quiet}
+use Rattle.mr_exchange.proofs.PlanQuietRuns.{reading_quiet}
 use Rattle.mr_start.specs.FrameCalls.{Targets, allocate_each, behind_first, enter, enter_at, enter_with, free_each, give_result, give_to, is_main, kept_types, leave, local_type, resume, return_from, return_value, storage_asks, store_each, targets_of, unwind, unwind_in, unwind_to}
 use Rattle.mr_start.specs.FrameChanges.{free_storage, store}
 use Rattle.mr_start.specs.FrameFrames.{Frame, Look, Stack, scene_in}
 use Rattle.mr_start.specs.FrameSites.{Site}
 use Rattle.mr_start.proofs.FrameQuietChanges.{store_quiet, stores_quiet}
-use Rattle.mr_swap.specs.Meets.{addresses}
+use Rattle.mr_exchange.specs.Meets.{addresses}
 use Rattle.mr_exchange.proofs.Marks.{NewRanges}
 use Rattle.mr_exchange.proofs.Parts.{Makes, makes_behind, makes_then}
 

@@ -4,13 +4,13 @@ use Rattle.mr_ast.specs.declared.program.Program.{Program}
 use Rattle.mr_sched.specs.declared.schedule.Entry.{Entry}
 use Rattle.mr_sched.specs.declared.schedule.Schedule.{Schedule}
 use Rattle.mr_start.specs.TypingWalk.{WellFormed}
-use Rattle.mr_swap.specs.PlanMachine.{Bare, Completed, IllFormedStep, State, Stops, bare}
-use Rattle.mr_swap.specs.PlanRuns.{AreLegal, Config, after_bare, entry_fault, feet, foot_from, foot_of_bare, has_rule, is_ill_formed, machine_step, stepped_from}
+use Rattle.mr_exchange.specs.PlanMachine.{Bare, Completed, IllFormedStep, State, Stops, bare}
+use Rattle.mr_exchange.specs.PlanRuns.{AreLegal, Config, after_bare, entry_fault, feet, foot_from, foot_of_bare, has_rule, is_ill_formed, machine_step, stepped_from}
 use Rattle.mr_start.specs.FrameFits.{IsLook}
 use Rattle.mr_start.specs.FrameFrames.{Look}
-use Rattle.mr_start.specs.ThreadSoundState.{IsSoundConfig}
-use Rattle.mr_start.specs.ThreadSteps.{Own, thread_step}
-use Rattle.mr_start.proofs.ThreadRunSound.{entry_sound, legal_at}
+use Rattle.mr_start.specs.SoundState.{IsSoundConfig}
+use Rattle.mr_start.specs.Steps.{Own, thread_step}
+use Rattle.mr_start.proofs.RunSound.{entry_sound, legal_at}
 use Rattle.mr_start.specs.Runs.{Legal, steps_of}
 use Rattle.mr_start.specs.Start.{look_of, start_config}
 use Rattle.mr_start.proofs.StartSound.{start_look, start_sound}

@@ -21,9 +21,9 @@ use Rattle.mr_base.specs.Script.{Done, Undefined, ◌>>=◌}
 use Rattle.mr_start.specs.EvalEvaluation.{place_script, value_script, values_script}
 use Rattle.mr_start.specs.EvalMemoryQueries.{MemoryScript, reading_part}
 use Rattle.mr_start.specs.EvalOperators.{pointer_of_value}
-use Rattle.mr_swap.specs.PlanMachine.{CreatesNothing, Plan}
-use Rattle.mr_swap.proofs.PlanElementLaws.{Any-one}
-use Rattle.mr_swap.proofs.PlanQuietRuns.{reading_quiet}
+use Rattle.mr_exchange.specs.PlanMachine.{CreatesNothing, Plan}
+use Rattle.mr_exchange.proofs.PlanElementLaws.{Any-one}
+use Rattle.mr_exchange.proofs.PlanQuietRuns.{reading_quiet}
 use Rattle.mr_start.specs.FrameCalls.{both_there, call, call_function, call_number, call_plan, callee_of, calling, enter, given_types, goes_to, kept_types, resume, return_from, same_types, storage_asks, unwind}
 use Rattle.mr_start.specs.FrameChanges.{change, free_storage}
 use Rattle.mr_start.specs.FrameFrames.{GoesOn, Look, Onward, Stack, scene_in}
@@ -33,8 +33,8 @@ use Rattle.mr_start.specs.FrameSwitches.{switched}
 use Rattle.mr_start.proofs.FrameQuietChanges.{change_quiet}
 use Rattle.mr_start.proofs.FrameStorageSteps.{Leads}
 use Rattle.mr_start.proofs.FrameStatements.{by_kind, changes}
-use Rattle.mr_swap.specs.Meets.{addresses}
-use Rattle.mr_swap.specs.Swap.{IsWaiter}
+use Rattle.mr_exchange.specs.Meets.{addresses}
+use Rattle.mr_exchange.specs.Swap.{IsWaiter}
 use Rattle.mr_exchange.proofs.Calls.{enters, frees, resumes, returns, unwinds}
 use Rattle.mr_exchange.proofs.Marks.{NewRanges}
 use Rattle.mr_exchange.proofs.Parts.{Makes, leads_behind, makes_behind, makes_then}

@@ -15,15 +15,15 @@ use Rattle.mr_value.specs.declared.val.Val.TheVariants as val
 use Rattle.mr_value.specs.Numbers.{number_of}
 use Rattle.mr_base.specs.Script.{Done, Undefined, Ask, ◌>>=◌}
 use Rattle.mr_start.specs.EvalMemoryQueries.{Allocate, reading_part}
-use Rattle.mr_swap.specs.PlanMachine.{CreatesNothing}
-use Rattle.mr_swap.specs.PlanQueries.{OfMemory, StepScript, memory_part}
-use Rattle.mr_swap.proofs.PlanElementLaws.{Any-one}
+use Rattle.mr_exchange.specs.PlanMachine.{CreatesNothing}
+use Rattle.mr_exchange.specs.PlanQueries.{OfMemory, StepScript, memory_part}
+use Rattle.mr_exchange.proofs.PlanElementLaws.{Any-one}
 use Rattle.mr_start.specs.IntrOperations.{Operation, acquire, allocate, allocating, assume, assuming, atomic_load, atomic_store, compare_exchange, create_lock, deallocate, exchanged, fetch, fetched, found, instant, is_power_of_two, join, loaded, modify, number_in, operation, print, release, releasing, truth_in, with_pick}
 use Rattle.mr_start.specs.IntrTexts.{texts_of}
 use Rattle.mr_start.proofs.IntrEachOperation.{of_operation}
-use Rattle.mr_swap.specs.Meets.{addresses}
-use Rattle.mr_swap.specs.Spots.{ActsOn, IsCreation}
-use Rattle.mr_swap.specs.Swap.{IsWaiter}
+use Rattle.mr_exchange.specs.Meets.{addresses}
+use Rattle.mr_exchange.specs.Spots.{ActsOn, IsCreation}
+use Rattle.mr_exchange.specs.Swap.{IsWaiter}
 use Rattle.mr_exchange.proofs.Marks.{Marks, marked, unmarked}
 use Rattle.mr_exchange.proofs.Parts.{reads_any}
 use Rattle.mr_exchange.proofs.Tells.{Any-nil, Any-single, OpTells, PlanTells, one_event, tells_one, tells_quiet, tells_same}

@@ -5,18 +5,18 @@ use Rattle.std.specs.List.Sorted.{IsStrictlyIncreasing}
 use Rattle.mr_base.specs.declared.reason.Reason.{Reason}
 use Rattle.mr_base.specs.declared.thread.Event.{Event}
 use Rattle.mr_base.specs.declared.thread.Event.TheVariants.{Acquire, CreateLock, Join, Release, Spawn}
-use Rattle.mr_swap.specs.MemMemory.{Memory}
+use Rattle.mr_exchange.specs.MemMemory.{Memory}
 use Rattle.mr_base.specs.Script.{Went, Broken}
 use Rattle.mr_base.proofs.ScriptSwaps.{goes_on}
 use Rattle.mr_sync.specs.Tables.{Tables, acquired, any_waits, ended, holding, joined, joiners, released}
 use Rattle.mr_start.specs.EvalMemoryQueries.{Allocate, Free, MemoryQuery, MemoryReply, Modify, Reading, Write, memory_answer}
 use Rattle.mr_start.specs.EvalTally.{Tally}
-use Rattle.mr_swap.specs.PlanQueries.{Await, Finish, NewLock, OfMemory, Print, Query, Reply, Shared, Start, TryLock, Unlock, Waiting, answer, blocked, ending, fits, giving, going, in_shared, note, tables_of, telling, with_tables, woke}
-use Rattle.mr_swap.specs.PlanNotes.{Notes}
-use Rattle.mr_swap.proofs.PlanMemoryAnswers.{free_went}
-use Rattle.mr_swap.proofs.PlanQuietRuns.{query_unmade}
-use Rattle.mr_swap.proofs.PlanWentLaws.{at_outcome}
-use Rattle.mr_swap.proofs.Rising.{rising_one, rising_joiners}
+use Rattle.mr_exchange.specs.PlanQueries.{Await, Finish, NewLock, OfMemory, Print, Query, Reply, Shared, Start, TryLock, Unlock, Waiting, answer, blocked, ending, fits, giving, going, in_shared, note, tables_of, telling, with_tables, woke}
+use Rattle.mr_exchange.specs.PlanNotes.{Notes}
+use Rattle.mr_exchange.proofs.PlanMemoryAnswers.{free_went}
+use Rattle.mr_exchange.proofs.PlanQuietRuns.{query_unmade}
+use Rattle.mr_exchange.proofs.PlanWentLaws.{at_outcome}
+use Rattle.mr_exchange.proofs.Rising.{rising_one, rising_joiners}
 
 -- the address and the size of each new allocation, in order
 abbrev pub NewRanges : Type 0

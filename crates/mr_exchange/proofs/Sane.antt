@@ -2,10 +2,10 @@
 use Rattle.std.proofs.Common.{◌<◌, sym, ◌∙◌, subst}
 use Rattle.std.proofs.lemmas.Option.{same_Some, slice_get_within}
 use Rattle.mr_ast.specs.declared.program.Program.{Program}
-use Rattle.mr_swap.specs.PlanMachine.{State, Thread}
-use Rattle.mr_swap.specs.Swap.{IsSane}
-use Rattle.mr_start.specs.ThreadSoundState.{SoundState}
-use Rattle.mr_start.specs.ThreadSteps.{Own}
+use Rattle.mr_exchange.specs.PlanMachine.{State, Thread}
+use Rattle.mr_exchange.specs.Swap.{IsSane}
+use Rattle.mr_start.specs.SoundState.{SoundState}
+use Rattle.mr_start.specs.Steps.{Own}
 
 -- WHAT A STATE KEEPS IS ENOUGH
 pub sound_is_sane : (p : Program) (s : State Own) → SoundState p s → IsSane s

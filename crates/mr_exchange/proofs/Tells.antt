@@ -8,14 +8,14 @@ use Rattle.mr_layout.specs.Sizes.{align_of, size_of}
 use Rattle.mr_sched.specs.declared.schedule.Ask.{Ask}
 use Rattle.mr_sched.specs.declared.schedule.Ask.TheVariants.{Address}
 use Rattle.mr_value.specs.declared.val.Val.{Val}
-use Rattle.mr_swap.specs.PlanMachine.{Aborts, CreatesNothing, Creation, Exits, Goes, Plan}
-use Rattle.mr_swap.specs.PlanQueries.{StepScript}
-use Rattle.mr_swap.proofs.PlanElementLaws.{Any-one, Contains-nil, Contains-one}
+use Rattle.mr_exchange.specs.PlanMachine.{Aborts, CreatesNothing, Creation, Exits, Goes, Plan}
+use Rattle.mr_exchange.specs.PlanQueries.{StepScript}
+use Rattle.mr_exchange.proofs.PlanElementLaws.{Any-one, Contains-nil, Contains-one}
 use Rattle.mr_start.specs.FrameCalls.{storage_asks}
-use Rattle.mr_start.specs.ThreadSteps.{Turn}
-use Rattle.mr_swap.specs.Meets.{addresses}
-use Rattle.mr_swap.specs.Spots.{ActsOn, IsCreation, IsSpawn}
-use Rattle.mr_swap.specs.Swap.{HasOneEvent, IsCreated, IsStarted, IsWaiter}
+use Rattle.mr_start.specs.Steps.{Turn}
+use Rattle.mr_exchange.specs.Meets.{addresses}
+use Rattle.mr_exchange.specs.Spots.{ActsOn, IsCreation, IsSpawn}
+use Rattle.mr_exchange.specs.Swap.{HasOneEvent, IsCreated, IsStarted, IsWaiter}
 use Rattle.mr_exchange.proofs.Marks.{Marks, NewRanges, marked}
 use Rattle.mr_exchange.proofs.Tracked.{Tracks}
 

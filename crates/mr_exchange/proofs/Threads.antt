@@ -13,18 +13,18 @@ use Rattle.mr_value.specs.declared.val.Val.{Val, out-Val}
 use Rattle.mr_value.specs.declared.val.Val.TheVariants as val
 use Rattle.mr_base.specs.Script.{Done, Undefined}
 use Rattle.mr_start.specs.EvalMemoryQueries.{MemoryScript}
-use Rattle.mr_swap.specs.PlanMachine.{CreatesNothing, CreatesThread, Creation, Plan}
-use Rattle.mr_swap.proofs.PlanQuietRuns.{IsQuiet}
+use Rattle.mr_exchange.specs.PlanMachine.{CreatesNothing, CreatesThread, Creation, Plan}
+use Rattle.mr_exchange.proofs.PlanQuietRuns.{IsQuiet}
 use Rattle.mr_start.specs.FrameCalls.{callee_of, enter, kept_types, same_types, storage_asks}
 use Rattle.mr_start.specs.FrameFrames.{Aborts, EndsThread, Exits, GoesOn, Look, Onward}
 use Rattle.mr_start.specs.FrameOperations.{DueDo, Operands, finish, next_do, operands, store_result}
 use Rattle.mr_start.specs.FrameSteps.{frame_plan}
 use Rattle.mr_start.proofs.FrameQuietChanges.{store_quiet}
 use Rattle.mr_start.specs.IntrOperations.{Operation, operation}
-use Rattle.mr_swap.specs.Meets.{addresses}
-use Rattle.mr_swap.specs.Spots.{IsSpawn}
-use Rattle.mr_swap.specs.Swap.{IsStarted}
-use Rattle.mr_start.specs.ThreadSteps.{Own, TurnPlan, do_step, finished, finishing, frame_step, in_step, last_payload, new_thread, onward, operated, own_step, spawn, spawn_function, spawn_number, spawn_types, start, step_due, thread_types}
+use Rattle.mr_exchange.specs.Meets.{addresses}
+use Rattle.mr_exchange.specs.Spots.{IsSpawn}
+use Rattle.mr_exchange.specs.Swap.{IsStarted}
+use Rattle.mr_start.specs.Steps.{Own, TurnPlan, do_step, finished, finishing, frame_step, in_step, last_payload, new_thread, onward, operated, own_step, spawn, spawn_function, spawn_number, spawn_types, start, step_due, thread_types}
 use Rattle.mr_exchange.proofs.Calls.{enters}
 use Rattle.mr_exchange.proofs.FrameSteps.{FrameTells, frame_tells}
 use Rattle.mr_exchange.proofs.Intrinsics.{OperationTells, found_then, instant_tells, operation_tells}

@@ -2,7 +2,7 @@
 use Rattle.std.proofs.Common.{◌≡◌}
 use Rattle.mr_base.specs.Script.{Script, Done, Undefined, IllFormed, Ask, ◌>>=◌, Outcome, Went, run}
 use Rattle.mr_base.proofs.ScriptSwaps.{goes_on}
-use Rattle.mr_swap.proofs.PlanWentLaws.{at_outcome}
+use Rattle.mr_exchange.proofs.PlanWentLaws.{at_outcome}
 
 -- Marks are what is kept of notes, and mark tells what a query with its reply adds to them. Whatever is answered, the script, which begins with these
 -- marks, ends with P of its result and of the marks behind it.

@@ -3,9 +3,9 @@ use Rattle.std.specs.Prelude.{◌≡◌, ℕ, Bool, true, false, List, [], ◌�
 use Rattle.mr_ast.specs.declared.program.Program.{Program}
 use Rattle.mr_sched.specs.declared.schedule.Entry.{Entry}
 use Rattle.mr_sched.specs.declared.schedule.Schedule.{Schedule}
-use Rattle.mr_swap.specs.PlanMachine.{Bare, Completed, IllFormedStep, Language, State, Stops, bare}
-use Rattle.mr_swap.specs.PlanRuns.{Config, machine_step}
-use Rattle.mr_start.specs.ThreadSteps.{thread_step}
+use Rattle.mr_exchange.specs.PlanMachine.{Bare, Completed, IllFormedStep, Language, State, Stops, bare}
+use Rattle.mr_exchange.specs.PlanRuns.{Config, machine_step}
+use Rattle.mr_start.specs.Steps.{thread_step}
 use Rattle.mr_start.specs.Start.{look_of, start_config}
 
 -- a bare step stops: by exit, abort or undefined behaviour

@@ -2,12 +2,12 @@
 use Rattle.std.specs.Prelude.{◌≡◌, ℕ, List, [], ◌∷◌, None}
 use Rattle.mr_event.specs.Footprint.{Footprint}
 use Rattle.mr_sched.specs.declared.schedule.Entry.{Entry}
-use Rattle.mr_swap.specs.PlanLegal.{state_fault}
-use Rattle.mr_swap.specs.PlanMachine.{Completed, State, bare}
-use Rattle.mr_swap.specs.PlanNotes.{Notes}
-use Rattle.mr_swap.specs.PlanRuns.{foot_in}
+use Rattle.mr_exchange.specs.PlanLegal.{state_fault}
+use Rattle.mr_exchange.specs.PlanMachine.{Completed, State, bare}
+use Rattle.mr_exchange.specs.PlanNotes.{Notes}
+use Rattle.mr_exchange.specs.PlanRuns.{foot_in}
 use Rattle.mr_start.specs.FrameFrames.{Look}
-use Rattle.mr_start.specs.ThreadSteps.{Own, thread_step}
+use Rattle.mr_start.specs.Steps.{Own, thread_step}
 
 -- what is seen of a completed step: its footprint, and what it printed
 pub record Done : Type 0 where

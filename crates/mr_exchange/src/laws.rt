@@ -3,18 +3,18 @@
 ghost use Rattle.std.specs.Prelude.{◌≡◌, ℕ, ◌+◌, ◌∷◌, ◌++◌, [], All, List, None, Some, length};
 ghost use Rattle.mr_ast.specs.declared.program.Program.{Program};
 ghost use Rattle.mr_event.specs.FootOk.{IsFootOk};
-ghost use Rattle.mr_order.specs.Trace.{AreIndependent};
+ghost use Rattle.mr_exchange.specs.Trace.{AreIndependent};
 ghost use Rattle.mr_sched.specs.declared.schedule.Entry.{Entry};
 ghost use Rattle.mr_sched.specs.declared.schedule.Schedule.{Schedule};
 ghost use Rattle.mr_start.specs.TypingWalk.{WellFormed};
-ghost use Rattle.mr_swap.specs.PlanMachine.{State};
+ghost use Rattle.mr_exchange.specs.PlanMachine.{State};
 ghost use Rattle.mr_start.specs.FrameFrames.{Look};
-ghost use Rattle.mr_start.specs.ThreadSoundState.{SoundState};
-ghost use Rattle.mr_start.specs.ThreadSteps.{Own, thread_step};
+ghost use Rattle.mr_start.specs.SoundState.{SoundState};
+ghost use Rattle.mr_start.specs.Steps.{Own, thread_step};
 ghost use Rattle.mr_start.specs.Runs.{Legal, steps_of};
 ghost use Rattle.mr_start.specs.Start.{look_of, start_config, start_fault};
-ghost use Rattle.mr_swap.specs.Limits.{LimitLaw};
-ghost use Rattle.mr_swap.specs.Swap.{IsSane, SwapLaw};
+ghost use Rattle.mr_exchange.specs.Limits.{LimitLaw};
+ghost use Rattle.mr_exchange.specs.Swap.{IsSane, SwapLaw};
 ghost use Rattle.mr_exchange.specs.Counted.{LastStops};
 ghost use Rattle.mr_exchange.specs.Exchange.{Done, Leads};
 

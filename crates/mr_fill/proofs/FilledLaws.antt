@@ -9,8 +9,8 @@ use Rattle.mr_typing.specs.Walk.{WellFormed}
 use Rattle.mr_plan.specs.Runs.{AreLegal, Config, machine_step}
 use Rattle.mr_start.specs.FrameFits.{IsLook}
 use Rattle.mr_start.specs.FrameFrames.{Look}
-use Rattle.mr_start.specs.ThreadSoundState.{IsSoundConfig}
-use Rattle.mr_start.specs.ThreadSteps.{Own, thread_step}
+use Rattle.mr_start.specs.SoundState.{IsSoundConfig}
+use Rattle.mr_start.specs.Steps.{Own, thread_step}
 use Rattle.mr_start.specs.Runs.{Legal, program_step}
 use Rattle.mr_start.specs.Start.{look_of, start_config}
 use Rattle.mr_start.proofs.StartSound.{start_look, start_sound}

@@ -6,7 +6,7 @@ use Rattle.mr_sched.specs.declared.schedule.Entry.{Entry}
 use Rattle.mr_plan.specs.Runs.{Config, after}
 use Rattle.mr_plan.proofs.RunLaws.{completed_by_step}
 use Rattle.mr_start.specs.FrameFrames.{Look}
-use Rattle.mr_start.specs.ThreadSteps.{Own, thread_step}
+use Rattle.mr_start.specs.Steps.{Own, thread_step}
 use Rattle.mr_start.specs.Runs.{program_fault, program_step}
 use Rattle.mr_step.specs.Standing.{Standing}
 use Rattle.mr_run.specs.Runs.{IsMade}

@@ -11,9 +11,9 @@ use Rattle.mr_sched.specs.declared.schedule.Ask.{Ask}
 use Rattle.mr_sched.specs.declared.schedule.Ask.TheVariants.{Address, Waiter}
 use Rattle.mr_sync.specs.Tables.{on_lock}
 use Rattle.mr_plan.proofs.ElementLaws.{Contains-nil}
-use Rattle.mr_swap.specs.Meets.{IsTaken, MeetsAfter, addresses}
-use Rattle.mr_swap.proofs.ElementTests.{front_cases}
-use Rattle.mr_swap.proofs.MeetsLaws.{clear_from}
+use Rattle.mr_exchange.specs.Meets.{IsTaken, MeetsAfter, addresses}
+use Rattle.mr_exchange.proofs.ElementTests.{front_cases}
+use Rattle.mr_exchange.proofs.MeetsLaws.{clear_from}
 use Rattle.mr_auto.specs.Drawing.{Picked, found, waiting_in}
 use Rattle.mr_auto.specs.Drawn.{EndsBy}
 use Rattle.mr_auto.proofs.Addresses.{apart_behind, bytes_behind, found_is, not_bad}

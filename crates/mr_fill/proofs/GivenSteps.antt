@@ -18,15 +18,15 @@ use Rattle.mr_plan.specs.Runs.{Config, after_bare, entry_fault, fault_in, is_run
 use Rattle.mr_plan.proofs.ElementLaws.{Contains-nil}
 use Rattle.mr_start.specs.FrameFits.{IsLook}
 use Rattle.mr_start.specs.FrameFrames.{Look}
-use Rattle.mr_start.specs.ThreadSteps.{Own, thread_step}
-use Rattle.mr_start.proofs.ThreadRunSound.{entry_sound}
-use Rattle.mr_start.specs.ThreadSoundState.{IsSoundConfig, SoundState}
+use Rattle.mr_start.specs.Steps.{Own, thread_step}
+use Rattle.mr_start.proofs.RunSound.{entry_sound}
+use Rattle.mr_start.specs.SoundState.{IsSoundConfig, SoundState}
 use Rattle.mr_step.proofs.ExchangeSane.{sound_is_sane}
 use Rattle.mr_step.proofs.ExchangeTelling.{thread_step_tells}
-use Rattle.mr_swap.specs.Meets.{AreNewIn, IsTaken, addresses}
-use Rattle.mr_swap.proofs.BareSteps.{needs_are, taken, whole, whole_run}
-use Rattle.mr_swap.proofs.MeetsLaws.{legal_of_meets, step_only}
-use Rattle.mr_swap.proofs.StepRuns.{memory_of}
+use Rattle.mr_exchange.specs.Meets.{AreNewIn, IsTaken, addresses}
+use Rattle.mr_exchange.proofs.BareSteps.{needs_are, taken, whole, whole_run}
+use Rattle.mr_exchange.proofs.MeetsLaws.{legal_of_meets, step_only}
+use Rattle.mr_exchange.proofs.StepRuns.{memory_of}
 use Rattle.mr_step.proofs.EntryLaws.{enabled_is}
 use Rattle.mr_auto.specs.Drawing.{Next, Picked}
 use Rattle.mr_auto.specs.Drawn.{EndsBy, LiesBehind}

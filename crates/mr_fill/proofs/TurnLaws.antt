@@ -12,7 +12,7 @@ use Rattle.mr_plan.specs.Legal.{Fault, creation_fault}
 use Rattle.mr_plan.specs.Machine.{State, needs}
 use Rattle.mr_plan.specs.Runs.{Config, is_running}
 use Rattle.mr_start.specs.FrameFrames.{Look}
-use Rattle.mr_start.specs.ThreadSteps.{Own, thread_step}
+use Rattle.mr_start.specs.Steps.{Own, thread_step}
 use Rattle.mr_auto.specs.Drawing.{Next}
 use Rattle.mr_fill.specs.Filling.{asked_entry, enabled_entry, entry_at, entry_from, entry_in, entry_with, given, is_surplus, missing_code, within_limits}
 use Rattle.mr_fill.specs.declared.order.Turn.{Turn}

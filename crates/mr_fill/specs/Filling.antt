@@ -18,7 +18,7 @@ use Rattle.mr_plan.specs.Legal.{Fault, creation_fault}
 use Rattle.mr_plan.specs.Machine.{State, needs}
 use Rattle.mr_plan.specs.Runs.{Config, is_running}
 use Rattle.mr_start.specs.FrameFrames.{Look}
-use Rattle.mr_start.specs.ThreadSteps.{Own, thread_step}
+use Rattle.mr_start.specs.Steps.{Own, thread_step}
 use Rattle.mr_start.specs.Runs.{program_step}
 use Rattle.mr_start.specs.Start.{look_of, start_config}
 use Rattle.mr_auto.specs.Drawing.{Next, Picked, found, put, start_picked, waiting_in}

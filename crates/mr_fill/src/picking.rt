@@ -1,7 +1,7 @@
 //! The picks for what the step of a turn asks for.
 ghost use Rattle.std.specs.Prelude.{◌≡◌, IfOk, Some, slice_get};
 ghost use Rattle.mr_plan.specs.Machine.{State};
-ghost use Rattle.mr_start.specs.ThreadSteps.{Own};
+ghost use Rattle.mr_start.specs.Steps.{Own};
 ghost use Rattle.mr_auto.specs.Answers.{PickAnswer, PicksAnswer};
 ghost use Rattle.mr_auto.specs.Drawing.{waiting_in};
 ghost use Rattle.mr_fill.specs.Filling.{asks_waiter, behind_given, given, given_pick, is_surplus, is_waiter, missing_code};

@@ -4,7 +4,7 @@ ghost use Rattle.mr_plan.specs.Machine.{State};
 ghost use Rattle.mr_plan.specs.Queries.{tables_of};
 ghost use Rattle.mr_plan.specs.Runs.{is_running};
 ghost use Rattle.mr_sync.specs.Tables.{IsEnabled};
-ghost use Rattle.mr_start.specs.ThreadSteps.{Own};
+ghost use Rattle.mr_start.specs.Steps.{Own};
 ghost use Rattle.mr_auto.specs.Answers.{HasState};
 ghost use Rattle.mr_fill.specs.Filling.{asked_entry, enabled_entry, entry_at, entry_in};
 ghost use Rattle.mr_fill.specs.Turning.{TurnAnswer};

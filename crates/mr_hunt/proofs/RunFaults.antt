@@ -7,7 +7,7 @@ use Rattle.mr_sched.specs.declared.schedule.Entry.{Entry}
 use Rattle.mr_sched.specs.declared.schedule.Schedule.{Schedule}
 use Rattle.mr_start.specs.FrameFrames.{Look}
 use Rattle.mr_step.specs.PlanRuns.{Config}
-use Rattle.mr_start.specs.ThreadSteps.{Own}
+use Rattle.mr_start.specs.Steps.{Own}
 use Rattle.mr_start.specs.Runs.{Legal, PlacedFault, program_step, schedule_fault}
 use Rattle.mr_start.specs.Start.{look_of, start_config}
 use Rattle.mr_start.proofs.RunLaws.{no_schedule_fault}

@@ -7,9 +7,9 @@ use Rattle.mr_ast.specs.declared.types.IntType.{IntType}
 use Rattle.mr_ast.specs.declared.types.Ty.TheVariants as ty
 use Rattle.mr_layout.proofs.BrokenLaws.{int_ok}
 use Rattle.mr_layout.proofs.SizeLaws.{size_int}
-use Rattle.mr_intops.specs.Arith.{arith_of}
-use Rattle.mr_intops.specs.declared.arithmetic.ArithOp.{ArithOp}
-use Rattle.mr_intops.proofs.Within.{arith_of-within}
+use Rattle.mr_eval.specs.Arith.{arith_of}
+use Rattle.mr_eval.specs.declared.arithmetic.ArithOp.{ArithOp}
+use Rattle.mr_eval.proofs.Within.{arith_of-within}
 use Rattle.mr_value.specs.declared.val.Val.{Val, out-Val}
 use Rattle.mr_value.specs.declared.val.Val.TheVariants as val
 use Rattle.mr_value.specs.Decode.{decoded}

@@ -1,15 +1,15 @@
 pub mod Arguments
 pub mod AtomicLaws
 pub mod AtomicRuns
-pub mod HeapLaws
 pub mod EachOperation
+pub mod HeapLaws
 pub mod Leaving
 pub mod LockLaws
 pub mod LockSafe
 pub mod NeedLaws
 pub mod OperatedLaws
+pub mod Operates
 pub mod OperationSafe
 pub mod OwnReasons
-pub mod Operates
 pub mod TextLaws
 pub use Rattle.mr_sync.proofs.SoundTables as SyncSoundTables

@@ -11,7 +11,7 @@ use Rattle.mr_base.specs.declared.byte.Kind.TheVariants.{Heap}
 use Rattle.mr_base.specs.declared.byte.Pointer.{Pointer}
 use Rattle.mr_base.specs.declared.reason.Reason.TheVariants.{AssumeFalse, BadAlign, SizeTooLarge}
 use Rattle.mr_base.specs.Stops.{Stop}
-use Rattle.mr_intops.specs.Numbers.{bits_for, value_of}
+use Rattle.mr_eval.specs.Numbers.{bits_for, value_of}
 use Rattle.mr_layout.specs.Sizes.{align_of, size_of}
 use Rattle.mr_sched.specs.declared.schedule.Ask.{Ask}
 use Rattle.mr_sched.specs.declared.schedule.Ask.TheVariants.{Address, Waiter}

@@ -6,6 +6,6 @@ pub mod Meetings
 pub mod Powers
 pub mod PutLaws
 pub mod RangeLaws
-pub mod SpeakingLaws
 pub mod SpanLaws
+pub mod SpeakingLaws
 pub mod Views

@@ -7,7 +7,7 @@ use Rattle.mr_ast.specs.Writing.{judged_name, name_form}
 use Rattle.mr_ast.specs.ProgramGrammar.{body_form, function_form, inside_function, with_name}
 use Rattle.mr_grammar.specs.Reading.{expected, first_at, read}
 use Rattle.mr_parse.specs.Views.{named}
-use Rattle.mr_reader.proofs.Walk.LoopLaws.{behind_word}
+use Rattle.mr_parse.proofs.Walk.LoopLaws.{behind_word}
 
 -- its body stands inside it
 pub function_reads : (room : ℕ) (scope : Scope) (k : ℕ) (ws rest behind : List Word) (name : ℕ) → expected (codes "fn") ws ≡ Ok rest

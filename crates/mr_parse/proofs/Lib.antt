@@ -1,2 +1,3 @@
 pub mod FunctionLaws
 pub mod ParseLaws
+pub mod Walk

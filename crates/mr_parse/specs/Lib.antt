@@ -1,2 +1,5 @@
 pub mod Gives
+pub mod Postfixes
+pub mod ReaderGives
+pub mod ReaderViews
 pub mod Views

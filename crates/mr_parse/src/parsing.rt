@@ -7,19 +7,19 @@ ghost use Rattle.mr_lex.specs.declared.token.TextFault.{TextFault as Fault};
 ghost use Rattle.mr_grammar.specs.Denotes.{Denotes, definitions_in, program_of};
 ghost use Rattle.mr_words.specs.Defined.{knowing, text_at};
 ghost use Rattle.mr_grammar.specs.Faults.{FirstFault};
-ghost use Rattle.mr_reader.specs.Gives.{Gives};
+ghost use Rattle.mr_parse.specs.ReaderGives.{Gives};
 ghost use Rattle.mr_parse.specs.Gives.{ParseGives};
 ghost use Rattle.mr_grammar.specs.Parsing.{body_of, parsed, program_in, whole_of};
 ghost use Rattle.mr_words.specs.Naming.{IsSmall};
 ghost use Rattle.mr_words.specs.Places.{words_of};
 ghost use Rattle.mr_parse.specs.Views.{body_of_parts, defined_by};
 
+use crate::Reader;
 use crate::definitions::definitions_in as names_defined;
 use crate::fault::ParseFault;
 use crate::program::{Parts, program};
 use mr_ast::{MAX_OPEN, OutOfMemory, Program, TextKey};
 use mr_lex::{LexFault, Tokens, tokens};
-use mr_reader::Reader;
 use mr_words::{ReadFault, Scope, Tables, UNEXPECTED, fault_at, told};
 use std::alloc::Global;
 

@@ -3,16 +3,16 @@ ghost use Rattle.std.specs.Prelude.{codes};
 ghost use Rattle.mr_ast.specs.declared.words.Bracket.TheVariants.{Curly, Round};
 ghost use Rattle.mr_ast.specs.Writing.{function_use, listed, within, ◌▪◌, ◌◂◌, ◌▸◌, local_use};
 ghost use Rattle.mr_ast.specs.ProgramGrammar.{args_form, block_form, blocks_form, body_form, function_form, functions_form, global_form, globals_form, item_behind, item_form, items_form, judged_edition, judged_item, judged_kind, local_form, locals_form, program_form, reloc_form, repeat_form};
-ghost use Rattle.mr_reader.specs.Gives.{Gives};
+ghost use Rattle.mr_parse.specs.ReaderGives.{Gives};
 ghost use Rattle.mr_grammar.specs.Reading.{first_at, read};
 ghost use Rattle.mr_parse.specs.Views.{body_of_parts, head_of, named, parts_of};
 
 use crate::statements::{statements, terminator};
+use crate::{Reader, beside, pushed};
 use mr_ast::{
     Block, BlockKind, Bracket, FnName, Function, Global_, Item_, ItemWord, Items, Local, LocalName,
     MAX_BLOCKS, MAX_ITEMS, Role,
 };
-use mr_reader::{Reader, beside, pushed};
 use mr_words::{ReadFault, Scope, UNEXPECTED, edition_of, item_word_of, kind_of};
 use std::alloc::Global;
 

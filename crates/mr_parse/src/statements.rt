@@ -4,15 +4,15 @@ ghost use Rattle.mr_ast.specs.declared.words.Bracket.TheVariants.{Curly, Round};
 ghost use Rattle.mr_ast.specs.Forms.{Cases, Either, Part};
 ghost use Rattle.mr_ast.specs.Writing.{ThePlace, TheValue, block_use, listed, num_form, optional, within, ◌▪◌, ◌▸◌};
 ghost use Rattle.mr_ast.specs.ProgramGrammar.{assign_form, begins_stmt, call_form, numbered_form, do_form, is_stmt_word, judged_intrinsic, judged_stmt, judged_term, stmt_behind, stmt_form, stmts_form, switch_case_form, switch_cases_form, switch_form, term_behind, term_form, unwind_form, values_form};
-ghost use Rattle.mr_reader.specs.Gives.{Gives};
+ghost use Rattle.mr_parse.specs.ReaderGives.{Gives};
 ghost use Rattle.mr_grammar.specs.Reading.{first_at, is_next, read};
 ghost use Rattle.mr_parse.specs.Views.{call_end_form, called, called_behind, unwound, ways_form, ways_of};
 
+use crate::{Reader, beside, pushed};
 use mr_ast::{
     BlockName, Bracket, Intrinsic, Items, MAX_STMTS, Num, Place, Stmt, StmtWord, Term, TermWord,
     Value,
 };
-use mr_reader::{Reader, beside, pushed};
 use mr_words::{
     EXPOSED, ReadFault, Scope, TOO_MANY, UNEXPECTED, intrinsic_of, is_exposed, is_name,
     stmt_word_of, term_word_of,

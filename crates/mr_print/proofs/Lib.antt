@@ -1,4 +1,4 @@
 pub mod AppendLaws
+pub mod ProgramLaws
 pub mod TypeLaws
 pub mod ValueLaws
-pub mod ProgramLaws

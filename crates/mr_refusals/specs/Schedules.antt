@@ -7,7 +7,7 @@ use Rattle.mr_sched.specs.declared.version.Version.{Version}
 use Rattle.mr_sched.specs.Versions.{line_in}
 use Rattle.mr_plan.specs.Runs.{Config}
 use Rattle.mr_start.specs.FrameFrames.{Look}
-use Rattle.mr_start.specs.ThreadSteps.{Own}
+use Rattle.mr_start.specs.Steps.{Own}
 use Rattle.mr_start.specs.Runs.{PlacedFault, run_of}
 use Rattle.mr_start.specs.Start.{look_of}
 use Rattle.mr_next.specs.Culprits.{culprit_of}

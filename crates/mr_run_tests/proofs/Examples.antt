@@ -52,7 +52,7 @@ use Rattle.mr_frame.specs.Steps as steps
 use Rattle.mr_plan.specs.Legal.{Fault, fault, picks_fault}
 use Rattle.mr_plan.specs.Runs.{Config, after_bare, machine_step, races_with}
 use Rattle.mr_intr.specs.Texts.{number_text, spaced}
-use Rattle.mr_thread.specs.Steps.{Own, TurnPlan, in_step, own_step, reads, step_due, thread_step}
+use Rattle.mr_start.specs.Steps.{Own, TurnPlan, in_step, own_step, reads, step_due, thread_step}
 use Rattle.mr_start.specs.Runs.{run_of}
 use Rattle.mr_start.specs.Start.{item_bytes, look_of, start_config, start_memory}
 use Rattle.mr_sched.specs.declared.rule.ScheduleRule.TheVariants as rule

@@ -1,4 +1,3 @@
-pub mod VersionLaws
 pub mod EntryLaws
 pub mod FirstLines
 pub mod GroupLaws
@@ -9,4 +8,5 @@ pub mod Numerals
 pub mod Parts
 pub mod Pieces
 pub mod TextLaws
+pub mod VersionLaws
 pub mod WordLaws

@@ -10,7 +10,7 @@ use Rattle.mr_sched.specs.declared.version.Version.{Version}
 use Rattle.mr_plan.specs.Legal.{Fault}
 use Rattle.mr_plan.specs.Runs.{Config}
 use Rattle.mr_start.specs.FrameFrames.{Look}
-use Rattle.mr_start.specs.ThreadSteps.{Own}
+use Rattle.mr_start.specs.Steps.{Own}
 use Rattle.mr_start.specs.Runs.{PlacedFault, run_of, schedule_fault}
 use Rattle.mr_start.specs.Start.{look_of, start_fault}
 use Rattle.mr_input.specs.declared.refusal.Refusal.TheVariants as refusal

@@ -8,7 +8,7 @@ use Rattle.mr_frame.specs.PlanLegal.{Fault}
 use Rattle.mr_frame.specs.PlanMachine.{Bare, Completed, IllFormedStep, Language, State, Stops, bare}
 use Rattle.mr_frame.specs.PlanRuns.{AreLegal, Config, after, after_bare, feet, foot_from, foot_of_bare, machine_step, stepped_from}
 use Rattle.mr_frame.specs.Frames.{Look}
-use Rattle.mr_thread.specs.Steps.{Own, thread_step}
+use Rattle.mr_start.specs.Steps.{Own, thread_step}
 use Rattle.mr_start.specs.Runs.{Legal, PlacedFault, at_line, entries_fault, program_fault, program_step, run_of, schedule_fault, steps_of}
 use Rattle.mr_start.specs.Start.{look_of, start_config, start_fault}
 

@@ -21,7 +21,7 @@ use Rattle.mr_frame.proofs.PlanLegalLaws.{no_faults}
 use Rattle.mr_frame.proofs.PlanMemoryFacts.{fresh_fits}
 use Rattle.mr_frame.proofs.PlanRangeChecks.{Gave, aligned_ok, empty, filled as fills, gave, ranged}
 use Rattle.mr_frame.proofs.PlanStoreLaws.{put_one, rewritten, rewritten_size, stored_in, written_is}
-use Rattle.mr_thread.specs.Steps.{Own}
+use Rattle.mr_start.specs.Steps.{Own}
 use Rattle.mr_start.specs.Start.{Piece, ask_of, behind_store, filled, global_bytes, look_of, pieces, placed, start_config, start_fault, start_memory, start_placed}
 use Rattle.mr_start.proofs.Overlaps.{id_of}
 use Rattle.mr_start.proofs.StartStores.{lawful_address, low_range}

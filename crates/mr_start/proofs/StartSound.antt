@@ -18,9 +18,9 @@ use Rattle.mr_frame.specs.PlanStorage.{AreHeld, IsStorage, Slot}
 use Rattle.mr_frame.proofs.PlanStorageRuns.{set_cases}
 use Rattle.mr_frame.specs.Fits.{IsLook}
 use Rattle.mr_frame.specs.Storage.{slot_of, slots_in, slots_with}
-use Rattle.mr_thread.specs.SoundState.{FitsStatus, IsSoundConfig, SoundState, thread_slots}
-use Rattle.mr_thread.specs.Steps.{Own}
-use Rattle.mr_thread.proofs.RunSound.{never_ill_formed}
+use Rattle.mr_start.specs.SoundState.{FitsStatus, IsSoundConfig, SoundState, thread_slots}
+use Rattle.mr_start.specs.Steps.{Own}
+use Rattle.mr_start.proofs.RunSound.{never_ill_formed}
 use Rattle.mr_start.specs.Runs.{IsSoundRun, Legal}
 use Rattle.mr_start.specs.Start.{Piece, look_of, main_thread, pieces, start_config, start_fault, start_frame, start_locals, start_memory, start_placed}
 use Rattle.mr_start.proofs.StartFacts.{HasMain, functions_length, globals_length, has_main, return_is, start_fits}

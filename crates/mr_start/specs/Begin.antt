@@ -16,7 +16,7 @@ use Rattle.mr_frame.specs.PlanMachine.{thread_of}
 use Rattle.mr_frame.specs.PlanRuns.{Config}
 use Rattle.mr_frame.specs.Frames.{Look, Stack}
 use Rattle.mr_frame.specs.Kept.{stack_of}
-use Rattle.mr_thread.specs.Steps.{Own}
+use Rattle.mr_start.specs.Steps.{Own}
 use Rattle.mr_start.specs.declared.beginning.Entered.{Entered}
 use Rattle.mr_start.specs.declared.beginning.Start.{Start}
 use Rattle.mr_start.specs.declared.beginning.StartFault.{StartFault}

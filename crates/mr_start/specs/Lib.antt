@@ -2,7 +2,9 @@ pub mod Begin
 pub mod Judging
 pub mod Pieces
 pub mod Runs
+pub mod SoundState
 pub mod Start
+pub mod Steps
 pub use Rattle.mr_eval.specs.Evaluation as EvalEvaluation
 pub use Rattle.mr_eval.specs.MemoryQueries as EvalMemoryQueries
 pub use Rattle.mr_eval.specs.Operators as EvalOperators
@@ -14,12 +16,15 @@ pub use Rattle.mr_frame.specs.Changes as FrameChanges
 pub use Rattle.mr_frame.specs.Fits as FrameFits
 pub use Rattle.mr_frame.specs.Frames as FrameFrames
 pub use Rattle.mr_frame.specs.Operations as FrameOperations
+pub use Rattle.mr_frame.specs.PlanLegal
+pub use Rattle.mr_frame.specs.PlanMachine
+pub use Rattle.mr_frame.specs.PlanNotes
+pub use Rattle.mr_frame.specs.PlanQueries
+pub use Rattle.mr_frame.specs.PlanRuns
 pub use Rattle.mr_frame.specs.Sites as FrameSites
 pub use Rattle.mr_frame.specs.Steps as FrameSteps
 pub use Rattle.mr_frame.specs.Switches as FrameSwitches
-pub use Rattle.mr_thread.specs.IntrOperations
-pub use Rattle.mr_thread.specs.IntrTexts
-pub use Rattle.mr_thread.specs.SoundState as ThreadSoundState
-pub use Rattle.mr_thread.specs.Steps as ThreadSteps
+pub use Rattle.mr_intr.specs.Operations as IntrOperations
+pub use Rattle.mr_intr.specs.Texts as IntrTexts
 pub use Rattle.mr_typing.specs.Types as TypingTypes
 pub use Rattle.mr_typing.specs.Walk as TypingWalk

@@ -7,7 +7,7 @@ use Rattle.mr_frame.specs.EventFootprint.{Footprint}
 use Rattle.mr_frame.specs.PlanLegal.{Fault}
 use Rattle.mr_frame.specs.PlanRuns.{AreLegal, Config, NeverIllFormed, after, entry_fault, feet, machine_step}
 use Rattle.mr_frame.specs.Frames.{Look}
-use Rattle.mr_thread.specs.Steps.{Own, thread_step}
+use Rattle.mr_start.specs.Steps.{Own, thread_step}
 use Rattle.mr_start.specs.Start.{look_of, start_config, start_fault}
 
 -- one step of a program's machine

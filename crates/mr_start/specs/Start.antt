@@ -31,7 +31,7 @@ use Rattle.mr_frame.specs.PlanMachine.{thread_of}
 use Rattle.mr_frame.specs.PlanLegal.{Fault, picks_fault}
 use Rattle.mr_frame.specs.PlanRuns.{Config}
 use Rattle.mr_frame.specs.Frames.{Frame, Look}
-use Rattle.mr_thread.specs.Steps.{Own}
+use Rattle.mr_start.specs.Steps.{Own}
 
 -- ---- what the start allocates
 

@@ -6,7 +6,7 @@ ghost use Rattle.mr_sched.specs.declared.schedule.Schedule.{Schedule};
 ghost use Rattle.mr_typing.specs.Walk.{WellFormed};
 ghost use Rattle.mr_frame.specs.PlanRuns.{Config};
 ghost use Rattle.mr_frame.specs.Frames.{Look};
-ghost use Rattle.mr_thread.specs.Steps.{Own};
+ghost use Rattle.mr_start.specs.Steps.{Own};
 ghost use Rattle.mr_start.specs.Runs.{IsSoundRun, Legal, program_step, run_of, schedule_fault, steps_of};
 ghost use Rattle.mr_start.specs.Start.{IsWholeStart, start_fault};
 

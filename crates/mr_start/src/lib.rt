@@ -1,8 +1,9 @@
-//! The start of a run, and the judging of an entry's picks. (MiniRust, lang: the machine.)
+//! The start of a run, the step of a thread, and the judging of an entry's picks. (MiniRust, lang: the machine.)
 //!
 //! `specs/Start.antt` has what the start of a program allocates and stores, and the state before the first entry. `specs/Runs.antt` has
 //! whole runs under a schedule, which lie here since all that is said of runs cites them: where the machine stands in the end, the
-//! footprints, and which schedules are legal. `specs/Judging.antt` has how one entry's picks are judged, and `specs/Begin.antt` how a
+//! footprints, and which schedules are legal. `specs/Steps.antt` has the step of a thread, as the language of the machine's steps,
+//! and `specs/SoundState.antt` what states keep. `specs/Judging.antt` has how one entry's picks are judged, and `specs/Begin.antt` how a
 //! start is answered.
 //!
 //! Public calls: [`judge`], [`begin`] and [`start_asks`].

@@ -4,16 +4,16 @@ pub mod EntryLaws
 pub mod FirstLaws
 pub mod HandLaws
 pub mod Numbered
+pub mod PlaceLaws
 pub mod SoundLaws
 pub mod TakenLaws
-pub mod PlaceLaws
 pub use Rattle.mr_exchange.proofs.FootLimits as ExchangeFootLimits
 pub use Rattle.mr_exchange.proofs.Law as ExchangeLaw
 pub use Rattle.mr_exchange.proofs.Sane as ExchangeSane
-pub use Rattle.mr_exchange.proofs.SwapBareSteps
-pub use Rattle.mr_exchange.proofs.SwapElementTests
-pub use Rattle.mr_exchange.proofs.SwapMeetsLaws
-pub use Rattle.mr_exchange.proofs.SwapStepRuns
+pub use Rattle.mr_exchange.proofs.BareSteps as SwapBareSteps
+pub use Rattle.mr_exchange.proofs.ElementTests as SwapElementTests
+pub use Rattle.mr_exchange.proofs.MeetsLaws as SwapMeetsLaws
+pub use Rattle.mr_exchange.proofs.StepRuns as SwapStepRuns
 pub use Rattle.mr_exchange.proofs.Telling as ExchangeTelling
 pub use Rattle.mr_frame.proofs.StorageSteps as FrameStorageSteps
 pub use Rattle.mr_plan.proofs.ElementLaws as PlanElementLaws

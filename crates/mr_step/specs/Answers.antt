@@ -9,7 +9,7 @@ use Rattle.mr_event.specs.Footprint.{Footprint}
 use Rattle.mr_sched.specs.declared.schedule.Entry.{Entry}
 use Rattle.mr_plan.specs.Legal.{Fault}
 use Rattle.mr_plan.specs.Runs.{Config, foot_from, has_rule}
-use Rattle.mr_start.specs.ThreadSteps.{Own, thread_step}
+use Rattle.mr_start.specs.Steps.{Own, thread_step}
 use Rattle.mr_start.specs.Runs.{program_fault, program_step}
 use Rattle.mr_start.specs.Start.{start_fault, start_config, look_of}
 use Rattle.mr_step.specs.declared.fault.StepFault.{StepFault}

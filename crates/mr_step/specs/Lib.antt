@@ -8,7 +8,7 @@ pub use Rattle.mr_eval.specs.MemoryQueries as EvalMemoryQueries
 pub use Rattle.mr_eval.specs.Operators as EvalOperators
 pub use Rattle.mr_eval.specs.Reads as EvalReads
 pub use Rattle.mr_eval.specs.Typed as EvalTyped
-pub use Rattle.mr_exchange.specs.SwapMeets
+pub use Rattle.mr_exchange.specs.Meets as SwapMeets
 pub use Rattle.mr_exchange.specs.Witness as ExchangeWitness
 pub use Rattle.mr_frame.specs.Calls as FrameCalls
 pub use Rattle.mr_frame.specs.Frames as FrameFrames
@@ -21,6 +21,6 @@ pub use Rattle.mr_plan.specs.Queries as PlanQueries
 pub use Rattle.mr_plan.specs.Runs as PlanRuns
 pub use Rattle.mr_start.specs.Runs as StartRuns
 pub use Rattle.mr_start.specs.Start as StartStart
-pub use Rattle.mr_start.specs.ThreadSteps
+pub use Rattle.mr_start.specs.Steps as ThreadSteps
 pub use Rattle.mr_turn.specs.IntrOperations
 pub use Rattle.mr_turn.specs.IntrTexts

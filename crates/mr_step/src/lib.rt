@@ -1,6 +1,6 @@
 //! The machine: what a run of a program under a recorded schedule comes to, one step at a time, with any number of threads.
 //!
-//! The definitions are the specification machine's (MiniRust, lang), over scripts: the step of a thread (`mr_thread`), and over any language of
+//! The definitions are the specification machine's (MiniRust, lang), over scripts: the step of a thread (`mr_start`), and over any language of
 //! such steps the machine step with its race check and the rules that an entry of a schedule may break (`mr_plan`). `specs/Standing.antt` has
 //! what contracts see of a machine, `specs/Answers.antt` how its calls answer, and `specs/Kept.antt` how it keeps what it stands for.
 //!

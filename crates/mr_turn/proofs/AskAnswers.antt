@@ -34,7 +34,7 @@ use Rattle.mr_intr.specs.Effects.{Fits, IsOperation, shared_of}
 use Rattle.mr_intr.specs.Needs.{TellsNeeds, asks_of, creation_of}
 use Rattle.mr_intr.specs.Operations.{Operation, operation}
 use Rattle.mr_intr.specs.declared.need.Needs.{Needs}
-use Rattle.mr_start.specs.ThreadSteps.{Own, last_payload, operated, thread_types}
+use Rattle.mr_start.specs.Steps.{Own, last_payload, operated, thread_types}
 use Rattle.mr_frame.specs.PlanLegal.{Fault}
 use Rattle.mr_turn.specs.Asking.{AsksAnswer, AsksFunction, IsAsked, bare_fault, do_needs, step_needs}
 use Rattle.mr_turn.specs.Doing.{do_planned}

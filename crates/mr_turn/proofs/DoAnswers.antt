@@ -50,7 +50,7 @@ use Rattle.mr_intr.specs.Operations.{Operation, instant, operation}
 use Rattle.mr_intr.specs.Effects as Effects
 use Rattle.mr_intr.specs.Effects.{IsDone, IsOperation, Prints, operated}
 use Rattle.mr_intr.specs.declared.effect.Effect.{Effect}
-use Rattle.mr_start.specs.ThreadSteps.{Own, Turn, finishing, last_payload, planned as plan_behind, with_stack}
+use Rattle.mr_start.specs.Steps.{Own, Turn, finishing, last_payload, planned as plan_behind, with_stack}
 use Rattle.mr_turn.specs.declared.deed.Deed.{Deed}
 use Rattle.mr_turn.specs.declared.deed.TurnFault.{TurnFault}
 use Rattle.mr_turn.specs.declared.deed.TurnFault.TheVariants as answer
@@ -136,7 +136,7 @@ module _ (look : KeptLook) (stack : KeptStack) (s : Scene) (x : Tables) (call : 
   abbrev script : Operation
   script = operation d.op o.args o.arg_types o.result_type
 
-  abbrev is_script : Rattle.mr_start.specs.ThreadSteps.operated (look_of look) mine d o d.op ≡ Rattle.mr_start.specs.ThreadSteps.finished mine d o script
+  abbrev is_script : Rattle.mr_start.specs.Steps.operated (look_of look) mine d o d.op ≡ Rattle.mr_start.specs.Steps.finished mine d o script
   is_script = by_operation (look_of look) mine d o (begun s x) d.op is
 
   -- the picks break the rule that they break for the operation
@@ -233,8 +233,8 @@ module _ (look : KeptLook) (stack : KeptStack) (s : Scene) (x : Tables) (call : 
   abbrev last : Operation
   last = last_payload (stack_of stack).payloads
 
-  abbrev is_last : Rattle.mr_start.specs.ThreadSteps.operated (look_of look) thread_own d given d.op ≡ Rattle.mr_start.specs.ThreadSteps.finished thread_own d given last
-  is_last = ap (λ (op : Intrinsic). Rattle.mr_start.specs.ThreadSteps.operated (look_of look) thread_own d given op) is
+  abbrev is_last : Rattle.mr_start.specs.Steps.operated (look_of look) thread_own d given d.op ≡ Rattle.mr_start.specs.Steps.finished thread_own d given last
+  is_last = ap (λ (op : Intrinsic). Rattle.mr_start.specs.Steps.operated (look_of look) thread_own d given op) is
 
   no_payload : (payloads : List Pointer) → slice_get payloads 0 ≡ None → last_payload payloads ≡ Undefined (plainly NoPayload)
   no_payload [] h = refl

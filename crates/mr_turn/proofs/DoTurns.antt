@@ -17,7 +17,7 @@ use Rattle.mr_frame.specs.Frames.{Look}
 use Rattle.mr_frame.specs.Operations.{DueDo, Operands, finish, next_do, operands}
 use Rattle.mr_intr.specs.Effects.{IsOperation}
 use Rattle.mr_intr.specs.Operations.{Operation, operation}
-use Rattle.mr_start.specs.ThreadSteps.{Own, finished, finishing, operated, own_step, planned as plan_behind, step_due, with_stack}
+use Rattle.mr_start.specs.Steps.{Own, finished, finishing, operated, own_step, planned as plan_behind, step_due, with_stack}
 use Rattle.mr_turn.specs.Doing.{do_planned, do_turned}
 use Rattle.mr_turn.specs.Turning.{planned, turned}
 

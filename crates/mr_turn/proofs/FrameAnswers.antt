@@ -27,7 +27,7 @@ use Rattle.mr_frame.specs.Operations.{next_do}
 use Rattle.mr_frame.specs.Steps.{frame_plan}
 use Rattle.mr_frame.specs.declared.look.Look.{Look as KeptLook}
 use Rattle.mr_frame.specs.declared.stack.Stack.{Stack as KeptStack}
-use Rattle.mr_start.specs.ThreadSteps.{Turn}
+use Rattle.mr_start.specs.Steps.{Turn}
 use Rattle.mr_turn.specs.declared.deed.Deed.{Deed}
 use Rattle.mr_turn.specs.declared.deed.TurnFault.{TurnFault}
 use Rattle.mr_turn.specs.declared.deed.TurnFault.TheVariants as answer

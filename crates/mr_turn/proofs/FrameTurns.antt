@@ -23,7 +23,7 @@ use Rattle.mr_frame.specs.Frames.{Look, Onward}
 use Rattle.mr_frame.specs.Kept.{onward_of, stack_of}
 use Rattle.mr_frame.specs.Operations.{DueDo, next_do}
 use Rattle.mr_frame.specs.Steps.{frame_plan}
-use Rattle.mr_start.specs.ThreadSteps.{Own, Turn, in_step, onward, own_step, step_due}
+use Rattle.mr_start.specs.Steps.{Own, Turn, in_step, onward, own_step, step_due}
 use Rattle.mr_turn.specs.declared.deed.Deed.{Deed}
 use Rattle.mr_turn.specs.Turning.{IsFlow, Turned, begun, is_end, own_of, planned, printed_lines, shared_in, turn_by, turned}
 use Rattle.mr_turn.proofs.PlanAsks.{IsPlain, WentSo, frame_plain, led}

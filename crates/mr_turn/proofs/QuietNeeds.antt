@@ -21,7 +21,7 @@ use Rattle.mr_intr.specs.Effects.{Fits, IsOperation, shared_of}
 use Rattle.mr_intr.specs.Needs.{TellsNeeds}
 use Rattle.mr_intr.specs.declared.need.Creation.TheVariants.{Nothing}
 use Rattle.mr_intr.proofs.NeedLaws.{needs_nothing}
-use Rattle.mr_start.specs.ThreadSteps.{Own}
+use Rattle.mr_start.specs.Steps.{Own}
 use Rattle.mr_turn.specs.Asking.{may_ask, step_needs}
 use Rattle.mr_turn.specs.Doing.{do_planned}
 use Rattle.mr_turn.specs.Turning.{own_of}

@@ -52,7 +52,7 @@ use Rattle.mr_intr.proofs.OperationSafe.{result_is}
 use Rattle.std.proofs.lemmas.Option.{same_Some}
 use Rattle.std.proofs.lemmas.Bool.{and_parts}
 use Rattle.mr_turn.proofs.PlanAsks.{same_statuses}
-use Rattle.mr_start.specs.ThreadSteps.{Own, finishing, new_thread, thread_types, with_stack}
+use Rattle.mr_start.specs.Steps.{Own, finishing, new_thread, thread_types, with_stack}
 use Rattle.mr_turn.specs.declared.deed.Deed.{Deed}
 use Rattle.mr_turn.specs.Doing.{CanEnd, EndAnswer, IsGiven, IsNewThread, IsStart, SpawnGiven, SpawnsFunction, StandsFor, StartsThread, do_breaks, do_comes_to}
 use Rattle.mr_turn.specs.declared.deed.TurnFault.{TurnFault}

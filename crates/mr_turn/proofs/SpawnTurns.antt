@@ -22,7 +22,7 @@ use Rattle.mr_frame.specs.Effects.{entered}
 use Rattle.mr_frame.specs.Frames.{Look}
 use Rattle.mr_frame.specs.Operations.{DueDo, Operands}
 use Rattle.mr_intr.specs.Operations.{found}
-use Rattle.mr_start.specs.ThreadSteps.{Own, Turn, finishing, new_thread, operated, spawn, spawn_function, spawn_number, spawn_types, start, thread_types}
+use Rattle.mr_start.specs.Steps.{Own, Turn, finishing, new_thread, operated, spawn, spawn_function, spawn_number, spawn_types, start, thread_types}
 use Rattle.mr_turn.specs.Doing.{do_planned, do_turned}
 use Rattle.mr_eval.specs.Operators.{pointer_in}
 

@@ -9,7 +9,7 @@ use Rattle.mr_ast.specs.declared.types.Ty.{Ty}
 use Rattle.mr_ast.specs.declared.types.Ty.TheVariants as ty
 use Rattle.mr_typing.specs.SameTypes.{same_type}
 use Rattle.mr_frame.specs.Calls.{all_there, both_there, kept_types, local_type, same_types}
-use Rattle.mr_start.specs.ThreadSteps.{thread_types, unit}
+use Rattle.mr_start.specs.Steps.{thread_types, unit}
 
 -- ---- as many types as there are
 

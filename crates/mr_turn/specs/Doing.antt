@@ -45,7 +45,7 @@ use Rattle.mr_frame.specs.Fits.{FitsStack}
 use Rattle.mr_frame.specs.Frames.{Look, Stack}
 use Rattle.mr_frame.specs.Kept.{IsReady, look_of, stack_of}
 use Rattle.mr_frame.specs.Standing.{IsUncounted}
-use Rattle.mr_start.specs.ThreadSteps.{Own, Turn, operated, thread_types}
+use Rattle.mr_start.specs.Steps.{Own, Turn, operated, thread_types}
 use Rattle.mr_turn.specs.Turning.{DeedAnswer, Does, IsSame, TurnAnswer, asks_break, begun, own_of, picks_break, shared_in}
 
 -- the plan of an intrinsic that is given this, or why it stops before it has one

@@ -27,7 +27,7 @@ use Rattle.mr_frame.specs.Fits.{FitsStack}
 use Rattle.mr_frame.specs.Frames.{Look}
 use Rattle.mr_frame.specs.Kept.{IsReady, look_of, stack_of}
 use Rattle.mr_frame.specs.Standing.{IsUncounted}
-use Rattle.mr_start.specs.ThreadSteps.{Own, Turn, own_step, with_stack}
+use Rattle.mr_start.specs.Steps.{Own, Turn, own_step, with_stack}
 use Rattle.mr_start.specs.Judging.{fault_of}
 use Rattle.mr_turn.specs.declared.deed.Deed.{Deed}
 use Rattle.mr_turn.specs.declared.deed.TurnFault.{TurnFault}

@@ -1,6 +1,6 @@
 //! The turn of a thread: its next step, from the judging of its picks to what it leaves. (MiniRust, lang: the machine.)
 //!
-//! What a step comes to is defined over scripts (`mr_thread/specs/Steps.antt`); `specs/Turning.antt` says how the code answers. The public
+//! What a step comes to is defined over scripts (`mr_start/specs/Steps.antt`); `specs/Turning.antt` says how the code answers. The public
 //! call [`turn`] finds out what the next step of a thread needs, judges the picks of an entry for that, and takes the step: a statement or a
 //! terminator of its frames, an intrinsic, the start of a thread or the look at a payload. Proved: it tells exactly the rule that the picks
 //! break, and then nothing changed; or what the step comes to, with what it leaves and notes. Want of memory apart there is no other answer.

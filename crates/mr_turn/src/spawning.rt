@@ -7,7 +7,7 @@ ghost use Rattle.mr_value.specs.declared.val.Val.TheVariants as val;
 ghost use Rattle.mr_frame.specs.Calling.{HasLocals};
 ghost use Rattle.mr_frame.specs.Calls.{kept_types, local_type, same_types};
 ghost use Rattle.mr_frame.specs.Operations.{DueDo};
-ghost use Rattle.mr_start.specs.ThreadSteps.{thread_types};
+ghost use Rattle.mr_start.specs.Steps.{thread_types};
 ghost use Rattle.mr_turn.specs.Doing.{CanEnd, EndsDo, IsGiven, IsNewThread, SpawnsFunction, StartsThread, TakesDoStep, TakesDoTurn};
 
 use crate::deed::{Deed, TurnFault};

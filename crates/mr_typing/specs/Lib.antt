@@ -1,11 +1,11 @@
-pub mod SameTypes
-pub mod Types
-pub mod Unbroken
-pub mod Operands
+pub mod Blocks
 pub mod Broken
 pub mod Intrinsics
-pub mod Blocks
-pub mod Walk
 pub mod Judging
 pub mod JudgingBlocks
 pub mod Known
+pub mod Operands
+pub mod SameTypes
+pub mod Types
+pub mod Unbroken
+pub mod Walk

@@ -1,5 +1,5 @@
-pub mod Seen
-pub mod JudgingPrograms
-pub mod Gives
-pub mod Listed
 pub mod Answers
+pub mod Gives
+pub mod JudgingPrograms
+pub mod Listed
+pub mod Seen

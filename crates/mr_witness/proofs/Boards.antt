@@ -12,8 +12,8 @@ use Rattle.mr_event.specs.Predicted.{happens_before}
 use Rattle.mr_event.proofs.Ordered.{HappensBefore-before}
 use Rattle.mr_event.proofs.Tests.{happens_before_is, not_false}
 use Rattle.mr_clocks.specs.Whole.{AreFronts, IsReady, front_of}
-use Rattle.mr_order.specs.Trace.{IsAmong}
-use Rattle.mr_order.proofs.Lists.{Ahead, Ahead-filter, Ahead-places, Each, Each-filter, Each-places, Each-weaker, filter-kept, filter-left_out}
+use Rattle.mr_exchange.specs.Trace.{IsAmong}
+use Rattle.mr_exchange.proofs.Lists.{Ahead, Ahead-filter, Ahead-places, Each, Each-filter, Each-places, Each-weaker, filter-kept, filter-left_out}
 use Rattle.mr_witness.specs.Board.{IsBoard, IsNextOf, left_of}
 use Rattle.mr_witness.specs.Shuffled.{above_threads, drawn_step, earliest_of, free_step, is_free, is_ready, placed_in, ready_threads, shuffled_order, step_or_first, without}
 use Rattle.mr_sched.specs.declared.chooser.Chooser.{Chooser}

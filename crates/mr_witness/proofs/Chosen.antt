@@ -8,7 +8,7 @@ use Rattle.mr_event.specs.Kept.{kept}
 use Rattle.mr_event.specs.Order.{HappensBefore, places}
 use Rattle.mr_event.specs.Predicted.{happens_before}
 use Rattle.mr_event.proofs.Tests.{happens_before_is}
-use Rattle.mr_order.proofs.Lists.{Each-places, Each-weaker, filter-agree, filter-kept, filter-left_out, range_with_len-parts}
+use Rattle.mr_exchange.proofs.Lists.{Each-places, Each-weaker, filter-agree, filter-kept, filter-left_out, range_with_len-parts}
 use Rattle.mr_sched.specs.declared.schedule.Entry.{Entry}
 use Rattle.mr_sched.specs.declared.schedule.Schedule.{Schedule}
 use Rattle.mr_exchange.specs.Witness.{entry_at, kept_schedule}

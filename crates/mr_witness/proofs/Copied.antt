@@ -5,10 +5,10 @@ use Rattle.std.proofs.lemmas.List.{drop_all}
 use Rattle.mr_ast.specs.declared.program.Program.{Program}
 use Rattle.mr_event.specs.Footprint.{Footprint}
 use Rattle.mr_event.specs.Predicted.{predicted}
-use Rattle.mr_order.proofs.Lists.{Each-at}
+use Rattle.mr_exchange.proofs.Lists.{Each-at}
 use Rattle.mr_sched.specs.declared.schedule.Entry.{Entry}
 use Rattle.mr_sched.specs.declared.schedule.Schedule.{Schedule}
-use Rattle.mr_reasons.specs.TypingWalk.{WellFormed}
+use Rattle.mr_witness.specs.TypingWalk.{WellFormed}
 use Rattle.mr_exchange.specs.StartRuns.{Legal, steps_of}
 use Rattle.mr_exchange.specs.Witness.{entry_at, no_entry}
 use Rattle.mr_witness.specs.EveryOrder.{ComesToTheSame, reordered}

@@ -10,9 +10,9 @@ use Rattle.mr_event.specs.Order.{IsRearrangement, places, thread_at}
 use Rattle.mr_event.specs.Predicted.{happens_before}
 use Rattle.mr_event.proofs.Ordered.{HappensBefore-before}
 use Rattle.mr_event.proofs.Tests.{happens_before_is, not_false}
-use Rattle.mr_order.specs.Trace.{IsAmong, IsPlacing, IsReady}
-use Rattle.mr_order.proofs.Lists.{Ahead, Ahead-filter, Ahead-places, Each, Each-at, Each-filter, Each-places, Each-weaker, filter-kept, filter-left_out}
-use Rattle.mr_order.proofs.Placing.{placing_is_rearrangement, placing_within}
+use Rattle.mr_exchange.specs.Trace.{IsAmong, IsPlacing, IsReady}
+use Rattle.mr_exchange.proofs.Lists.{Ahead, Ahead-filter, Ahead-places, Each, Each-at, Each-filter, Each-places, Each-weaker, filter-kept, filter-left_out}
+use Rattle.mr_exchange.proofs.Placing.{placing_is_rearrangement, placing_within}
 use Rattle.mr_sched.specs.declared.chooser.Chooser.{Chooser}
 use Rattle.mr_sched.specs.Chooser.{behind_draw, drawn, drawn_from, first_chooser, position_in}
 use Rattle.mr_witness.specs.Shuffled.{above_threads, drawn_step, earliest_of, free_step, is_free, is_ready, placed_in, ready_threads, shuffled_order, step_or_first, without}

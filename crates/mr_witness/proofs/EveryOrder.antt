@@ -13,23 +13,23 @@ use Rattle.mr_event.specs.declared.footprint.Pair.{Pair}
 use Rattle.mr_event.specs.Order.{HasNoRace, IsPredicted, IsRearrangement, no_step, places, step_at}
 use Rattle.mr_event.specs.Predicted.{predicted}
 use Rattle.mr_event.proofs.Tests.{predicted_is}
-use Rattle.mr_order.specs.Shown.{AreAdjacent}
-use Rattle.mr_order.specs.Trace.{IsReported}
-use Rattle.mr_order.proofs.First.{none_predicted}
-use Rattle.mr_order.proofs.Rearranged.{none_in_rearranged, none_reported, rearranged_runs}
+use Rattle.mr_exchange.specs.Shown.{AreAdjacent}
+use Rattle.mr_exchange.specs.Trace.{IsReported}
+use Rattle.mr_exchange.proofs.First.{none_predicted}
+use Rattle.mr_exchange.proofs.Rearranged.{none_in_rearranged, none_reported, rearranged_runs}
 use Rattle.mr_sched.specs.declared.schedule.Entry.{Entry}
 use Rattle.mr_sched.specs.declared.schedule.Schedule.{Schedule}
-use Rattle.mr_reasons.specs.TypingWalk.{WellFormed}
-use Rattle.mr_reasons.specs.PlanMachine.{Language, State}
-use Rattle.mr_reasons.specs.PlanRuns.{AreLegal, Config, after, feet, machine_step}
-use Rattle.mr_reasons.specs.FrameFits.{IsLook}
-use Rattle.mr_reasons.specs.FrameFrames.{Look}
-use Rattle.mr_reasons.specs.ThreadSoundState.{SoundState}
-use Rattle.mr_reasons.specs.ThreadSteps.{Own, thread_step}
+use Rattle.mr_witness.specs.TypingWalk.{WellFormed}
+use Rattle.mr_witness.specs.PlanMachine.{Language, State}
+use Rattle.mr_witness.specs.PlanRuns.{AreLegal, Config, after, feet, machine_step}
+use Rattle.mr_witness.specs.FrameFits.{IsLook}
+use Rattle.mr_witness.specs.FrameFrames.{Look}
+use Rattle.mr_witness.specs.ThreadSoundState.{SoundState}
+use Rattle.mr_witness.specs.ThreadSteps.{Own, thread_step}
 use Rattle.mr_exchange.specs.StartRuns.{Legal, run_of, steps_of}
 use Rattle.mr_exchange.specs.StartStart.{look_of, start_config}
 use Rattle.mr_exchange.proofs.StartStartSound.{start_look, start_sound}
-use Rattle.mr_exchange.specs.SwapSwap.{IsSane, SwapLaw}
+use Rattle.mr_exchange.specs.Swap.{IsSane, SwapLaw}
 use Rattle.mr_exchange.proofs.Sane.{sound_is_sane}
 use Rattle.mr_exchange.specs.Witness.{entry_at}
 use Rattle.mr_exchange.proofs.Exchanged.{NotesThread}
@@ -37,7 +37,7 @@ use Rattle.mr_exchange.proofs.Law.{law_of, thread_noted}
 use Rattle.mr_witness.proofs.Lists.{after_append, feet_append, feet_length, legal_append, map_append, map_places}
 use Rattle.mr_witness.proofs.Recorded.{config}
 use Rattle.mr_witness.proofs.Replayed.{calm_from, last_of}
-use Rattle.mr_order.proofs.Lists.{range_with_len-parts}
+use Rattle.mr_exchange.proofs.Lists.{range_with_len-parts}
 use Rattle.mr_witness.specs.EveryOrder.{ComesToTheSame, StandAlike, prints_of, reordered}
 use Rattle.mr_witness.proofs.OrderMoves.{Place, machine}
 use Rattle.mr_witness.proofs.RecordedPlaces.{recorded}

@@ -9,9 +9,9 @@ use Rattle.mr_event.specs.Kept.{kept, selected}
 use Rattle.mr_event.specs.Order.{HappensBefore, places}
 use Rattle.mr_event.specs.Predicted.{happens_before}
 use Rattle.mr_event.proofs.Tests.{happens_before_is, not_false}
-use Rattle.mr_order.specs.Trace.{IsAmong, IsFirstPair, short_keeps}
-use Rattle.mr_order.proofs.Choices.{short_selects}
-use Rattle.mr_order.proofs.Lists.{Each, Each-places, Each-weaker, filter-kept, filter-left_out}
+use Rattle.mr_exchange.specs.Trace.{IsAmong, IsFirstPair, short_keeps}
+use Rattle.mr_exchange.proofs.Choices.{short_selects}
+use Rattle.mr_exchange.proofs.Lists.{Each, Each-places, Each-weaker, filter-kept, filter-left_out}
 use Rattle.mr_sched.specs.declared.schedule.Entry.{Entry}
 use Rattle.mr_sched.specs.declared.schedule.Schedule.{Schedule}
 use Rattle.mr_exchange.specs.Witness.{entry_at, kept_schedule}

@@ -7,18 +7,18 @@ use Rattle.mr_event.specs.declared.footprint.Pair.{Pair}
 use Rattle.mr_event.specs.Kept.{kept}
 use Rattle.mr_event.specs.Order.{step_at}
 use Rattle.mr_event.specs.Predicted.{predicted}
-use Rattle.mr_order.specs.Trace.{IsFirstPair}
-use Rattle.mr_order.proofs.Choices.{kept_selects}
-use Rattle.mr_order.proofs.First.{first_of_predicted}
+use Rattle.mr_exchange.specs.Trace.{IsFirstPair}
+use Rattle.mr_exchange.proofs.Choices.{kept_selects}
+use Rattle.mr_exchange.proofs.First.{first_of_predicted}
 use Rattle.mr_sched.specs.declared.schedule.Schedule.{Schedule}
-use Rattle.mr_reasons.specs.TypingWalk.{WellFormed}
-use Rattle.mr_reasons.specs.PlanMachine.{State}
-use Rattle.mr_reasons.specs.ThreadSoundState.{SoundState}
-use Rattle.mr_reasons.specs.ThreadSteps.{Own, thread_step}
+use Rattle.mr_witness.specs.TypingWalk.{WellFormed}
+use Rattle.mr_witness.specs.PlanMachine.{State}
+use Rattle.mr_witness.specs.ThreadSoundState.{SoundState}
+use Rattle.mr_witness.specs.ThreadSteps.{Own, thread_step}
 use Rattle.mr_exchange.specs.StartRuns.{Legal, run_of, steps_of}
 use Rattle.mr_exchange.specs.StartStart.{look_of, start_config}
 use Rattle.mr_exchange.proofs.StartStartSound.{start_look, start_sound}
-use Rattle.mr_exchange.specs.SwapSwap.{IsSane, SwapLaw}
+use Rattle.mr_exchange.specs.Swap.{IsSane, SwapLaw}
 use Rattle.mr_exchange.proofs.Sane.{sound_is_sane}
 use Rattle.mr_exchange.proofs.Exchanged.{NotesThread}
 use Rattle.mr_exchange.proofs.Law.{law_of, thread_noted}

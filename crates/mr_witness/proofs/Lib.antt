@@ -1,19 +1,26 @@
 pub mod Boards
+pub mod Calm
 pub mod Chosen
 pub mod Copied
 pub mod Drawn
 pub mod EveryOrder
 mod Examples
+pub mod Expressions
 pub mod Fewer
+pub mod Frames
 pub mod Kept
 pub mod Lists
 pub mod Moves
 pub mod Needed
 pub mod OrderMoves
 pub mod OrderReplayed
+pub mod Queries
 pub mod Recorded
 pub mod RecordedPlaces
 pub mod Replayed
+pub mod Runs
 pub mod ShortChosen
-pub mod Shown
 pub mod ShortWitness
+pub mod Shown
+pub mod Steps
+pub use Rattle.mr_start.proofs.PlanLegalLaws

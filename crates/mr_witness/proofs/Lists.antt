@@ -4,8 +4,8 @@ use Rattle.std.specs.List.{filter, range_with_len}
 use Rattle.std.proofs.lemmas.Bool.{cases_Bool}
 use Rattle.mr_event.specs.Footprint.{Footprint}
 use Rattle.mr_sched.specs.declared.schedule.Entry.{Entry}
-use Rattle.mr_reasons.specs.PlanMachine.{Bare, Completed, IllFormedStep, Language, State, Stops, bare}
-use Rattle.mr_reasons.specs.PlanRuns.{AreLegal, Config, after, feet, foot_from, foot_of_bare, machine_step}
+use Rattle.mr_witness.specs.PlanMachine.{Bare, Completed, IllFormedStep, Language, State, Stops, bare}
+use Rattle.mr_witness.specs.PlanRuns.{AreLegal, Config, after, feet, foot_from, foot_of_bare, machine_step}
 use Rattle.std.specs.Prelude.{None, Option, Some}
 
 map_later : {A : Type 0} (f g : ℕ → A) → ((k : ℕ) → f (k + 1) ≡ g k) → (a n : ℕ) → map f (range_with_len (a + 1) n) ≡ map g (range_with_len a n)

@@ -5,19 +5,19 @@ use Rattle.mr_ast.specs.declared.program.Program.{Program}
 use Rattle.mr_event.specs.Footprint.{Footprint}
 use Rattle.mr_event.specs.Footprints.{depends, wakes}
 use Rattle.mr_event.specs.Order.{step_at, thread_at}
-use Rattle.mr_order.specs.Trace.{AreIndependent, Machine, Runs}
-use Rattle.mr_order.proofs.Lists.{Each}
+use Rattle.mr_exchange.specs.Trace.{AreIndependent, Machine, Runs}
+use Rattle.mr_exchange.proofs.Lists.{Each}
 use Rattle.mr_sched.specs.declared.schedule.Entry.{Entry}
-use Rattle.mr_reasons.specs.TypingWalk.{WellFormed}
-use Rattle.mr_reasons.specs.PlanLegal.{state_fault}
-use Rattle.mr_reasons.specs.PlanMachine.{Completed, Language, State, bare}
-use Rattle.mr_reasons.specs.PlanNotes.{Notes}
-use Rattle.mr_reasons.specs.PlanRuns.{foot_in}
-use Rattle.mr_reasons.specs.FrameFits.{IsLook}
-use Rattle.mr_reasons.specs.FrameFrames.{Look}
-use Rattle.mr_reasons.specs.ThreadSoundState.{SoundState}
-use Rattle.mr_reasons.specs.ThreadSteps.{Own, thread_step}
-use Rattle.mr_exchange.specs.SwapSwap.{IsSane, SwapLaw}
+use Rattle.mr_witness.specs.TypingWalk.{WellFormed}
+use Rattle.mr_witness.specs.PlanLegal.{state_fault}
+use Rattle.mr_witness.specs.PlanMachine.{Completed, Language, State, bare}
+use Rattle.mr_witness.specs.PlanNotes.{Notes}
+use Rattle.mr_witness.specs.PlanRuns.{foot_in}
+use Rattle.mr_witness.specs.FrameFits.{IsLook}
+use Rattle.mr_witness.specs.FrameFrames.{Look}
+use Rattle.mr_witness.specs.ThreadSoundState.{SoundState}
+use Rattle.mr_witness.specs.ThreadSteps.{Own, thread_step}
+use Rattle.mr_exchange.specs.Swap.{IsSane, SwapLaw}
 use Rattle.mr_exchange.specs.Witness.{entry_at}
 use Rattle.mr_exchange.proofs.Exchanged.{NotesThread, sound_then}
 

@@ -10,8 +10,8 @@ use Rattle.mr_event.specs.Order.HappensBefore.{edge}
 use Rattle.mr_event.specs.Predicted.{happens_before}
 use Rattle.mr_event.proofs.Tests.{any_range, happens_before_is, race_pair_is}
 use Rattle.mr_clocks.specs.Whole.{IsNeeded, IsUpTo}
-use Rattle.mr_order.specs.Trace.{IsFirstPair, short_keeps}
-use Rattle.mr_order.proofs.Choices.{short_selects}
+use Rattle.mr_exchange.specs.Trace.{IsFirstPair, short_keeps}
+use Rattle.mr_exchange.proofs.Choices.{short_selects}
 use Rattle.mr_witness.specs.Marks.{AreEnds, AreMarks, AreRivalsBelow, IsEnd, IsNeededFor}
 
 -- ---- the second step and its rivals

@@ -5,17 +5,17 @@ use Rattle.std.specs.Prelude.{slice_index_or, if◌then◌else◌}
 use Rattle.mr_base.specs.declared.reason.Verdict.{Verdict}
 use Rattle.mr_event.specs.Footprint.{Footprint}
 use Rattle.mr_event.specs.Order.{no_step, step_at}
-use Rattle.mr_order.specs.Trace.{Runs}
+use Rattle.mr_exchange.specs.Trace.{Runs}
 use Rattle.mr_sched.specs.declared.schedule.Entry.{Entry}
-use Rattle.mr_reasons.specs.TypingWalk.{WellFormed}
-use Rattle.mr_reasons.specs.PlanLegal.{fault, state_fault}
-use Rattle.mr_reasons.specs.PlanMachine.{Bare, Completed, IllFormedStep, Language, State, Stops, bare}
-use Rattle.mr_reasons.specs.PlanRuns.{AreLegal, Config, Printed, after_bare, entry_fault, fault_in, feet, foot_of_bare, is_running, machine_step}
-use Rattle.mr_reasons.specs.FrameFits.{IsLook}
-use Rattle.mr_reasons.specs.FrameFrames.{Look}
-use Rattle.mr_reasons.specs.ThreadSoundState.{SoundState}
-use Rattle.mr_reasons.specs.ThreadSteps.{Own, thread_step}
-use Rattle.mr_exchange.specs.SwapSwap.{IsSane, SwapLaw}
+use Rattle.mr_witness.specs.TypingWalk.{WellFormed}
+use Rattle.mr_witness.specs.PlanLegal.{fault, state_fault}
+use Rattle.mr_witness.specs.PlanMachine.{Bare, Completed, IllFormedStep, Language, State, Stops, bare}
+use Rattle.mr_witness.specs.PlanRuns.{AreLegal, Config, Printed, after_bare, entry_fault, fault_in, feet, foot_of_bare, is_running, machine_step}
+use Rattle.mr_witness.specs.FrameFits.{IsLook}
+use Rattle.mr_witness.specs.FrameFrames.{Look}
+use Rattle.mr_witness.specs.ThreadSoundState.{SoundState}
+use Rattle.mr_witness.specs.ThreadSteps.{Own, thread_step}
+use Rattle.mr_exchange.specs.Swap.{IsSane, SwapLaw}
 use Rattle.mr_exchange.proofs.Exchanged.{NotesThread, sound_then}
 use Rattle.mr_exchange.specs.Witness.{entry_at}
 use Rattle.mr_witness.proofs.Moves.{Kept, Takes, machine}

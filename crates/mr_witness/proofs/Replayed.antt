@@ -11,21 +11,21 @@ use Rattle.mr_base.specs.declared.thread.Status.TheVariants.{Enabled, Ended, OnJ
 use Rattle.mr_event.specs.Footprint.{Footprint}
 use Rattle.mr_event.specs.Footprints.{wakes}
 use Rattle.mr_event.specs.Order.{step_at, thread_at}
-use Rattle.mr_order.specs.Shown.{AreAdjacent, NextIs}
-use Rattle.mr_order.specs.Trace.{IsReported, Runs}
+use Rattle.mr_exchange.specs.Shown.{AreAdjacent, NextIs}
+use Rattle.mr_exchange.specs.Trace.{IsReported, Runs}
 use Rattle.mr_sched.specs.declared.schedule.Entry.{Entry}
 use Rattle.mr_sync.specs.Tables.{is_any_enabled, is_enabled}
-use Rattle.mr_reasons.specs.TypingWalk.{WellFormed}
-use Rattle.mr_reasons.specs.PlanLegal.{state_fault, status_fault}
-use Rattle.mr_reasons.specs.PlanMachine.{Bare, Language, State, bare}
-use Rattle.mr_reasons.specs.PlanQueries.{tables_of}
-use Rattle.mr_reasons.specs.PlanRuns.{AreLegal, Config, Printed, after, after_bare, feet, foot_in, foot_of_bare, machine_step, entry_fault, printed_by, races_with, verdict_after}
-use Rattle.mr_reasons.proofs.PlanLegalLaws.{no_faults}
-use Rattle.mr_reasons.specs.FrameFits.{IsLook}
-use Rattle.mr_reasons.specs.FrameFrames.{Look}
-use Rattle.mr_reasons.specs.ThreadSoundState.{SoundState}
-use Rattle.mr_reasons.specs.ThreadSteps.{Own, thread_step}
-use Rattle.mr_exchange.specs.SwapSwap.{IsSane, SwapLaw}
+use Rattle.mr_witness.specs.TypingWalk.{WellFormed}
+use Rattle.mr_witness.specs.PlanLegal.{state_fault, status_fault}
+use Rattle.mr_witness.specs.PlanMachine.{Bare, Language, State, bare}
+use Rattle.mr_witness.specs.PlanQueries.{tables_of}
+use Rattle.mr_witness.specs.PlanRuns.{AreLegal, Config, Printed, after, after_bare, feet, foot_in, foot_of_bare, machine_step, entry_fault, printed_by, races_with, verdict_after}
+use Rattle.mr_witness.proofs.PlanLegalLaws.{no_faults}
+use Rattle.mr_witness.specs.FrameFits.{IsLook}
+use Rattle.mr_witness.specs.FrameFrames.{Look}
+use Rattle.mr_witness.specs.ThreadSoundState.{SoundState}
+use Rattle.mr_witness.specs.ThreadSteps.{Own, thread_step}
+use Rattle.mr_exchange.specs.Swap.{IsSane, SwapLaw}
 use Rattle.mr_exchange.proofs.Exchanged.{NotesThread}
 use Rattle.mr_exchange.specs.Witness.{entry_at}
 use Rattle.mr_witness.proofs.Moves.{Kept, Takes, machine}

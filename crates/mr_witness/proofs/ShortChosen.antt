@@ -4,8 +4,8 @@ use Rattle.std.specs.Prelude.{◌==◌, slice_index_or}
 use Rattle.std.specs.List.{filter}
 use Rattle.mr_event.specs.Footprint.{Footprint}
 use Rattle.mr_event.specs.Order.{places}
-use Rattle.mr_order.specs.Trace.{IsFirstPair, short_keeps}
-use Rattle.mr_order.proofs.Lists.{Each-places, Each-weaker, filter-agree}
+use Rattle.mr_exchange.specs.Trace.{IsFirstPair, short_keeps}
+use Rattle.mr_exchange.proofs.Lists.{Each-places, Each-weaker, filter-agree}
 use Rattle.mr_sched.specs.declared.schedule.Schedule.{Schedule}
 use Rattle.mr_exchange.specs.Witness.{entry_at}
 use Rattle.mr_witness.proofs.Lists.{map_append}

@@ -3,10 +3,10 @@ use Rattle.std.proofs.Common.{◌≡◌, ℕ, refl, sym, ◌∙◌, ap, subst, L
 use Rattle.mr_ast.specs.declared.program.Program.{Program}
 use Rattle.mr_event.specs.Footprint.{Footprint}
 use Rattle.mr_event.specs.Order.{step_at}
-use Rattle.mr_order.specs.Trace.{IsFirstPair}
-use Rattle.mr_order.proofs.Choices.{short_selects}
+use Rattle.mr_exchange.specs.Trace.{IsFirstPair}
+use Rattle.mr_exchange.proofs.Choices.{short_selects}
 use Rattle.mr_sched.specs.declared.schedule.Schedule.{Schedule}
-use Rattle.mr_reasons.specs.TypingWalk.{WellFormed}
+use Rattle.mr_witness.specs.TypingWalk.{WellFormed}
 use Rattle.mr_exchange.specs.StartRuns.{Legal, run_of, steps_of}
 use Rattle.mr_exchange.specs.StartStart.{look_of, start_config}
 use Rattle.mr_exchange.proofs.StartStartSound.{start_look, start_sound}

@@ -8,19 +8,19 @@ use Rattle.mr_base.specs.declared.reason.Verdict.TheVariants as verdict
 use Rattle.mr_event.specs.Footprint.{Footprint}
 use Rattle.mr_event.specs.Kept.{selected}
 use Rattle.mr_event.specs.Order.{places, step_at, thread_at}
-use Rattle.mr_order.specs.Shown.{IsShown, steps_of}
-use Rattle.mr_order.specs.Trace.{IsFirstPair, Runs, Selects}
-use Rattle.mr_order.proofs.Lists.{Each, Each-weaker, filter-agree, range_with_len-parts}
-use Rattle.mr_order.proofs.Witness.{selected_is_shown}
+use Rattle.mr_exchange.specs.Shown.{IsShown, steps_of}
+use Rattle.mr_exchange.specs.Trace.{IsFirstPair, Runs, Selects}
+use Rattle.mr_exchange.proofs.Lists.{Each, Each-weaker, filter-agree, range_with_len-parts}
+use Rattle.mr_exchange.proofs.Witness.{selected_is_shown}
 use Rattle.mr_sched.specs.declared.schedule.Entry.{Entry}
-use Rattle.mr_reasons.specs.TypingWalk.{WellFormed}
-use Rattle.mr_reasons.specs.PlanMachine.{Bare, Completed, State, bare}
-use Rattle.mr_reasons.specs.PlanRuns.{AreLegal, Config, Printed, after, entry_fault, feet, foot_of_bare, machine_step}
-use Rattle.mr_reasons.specs.FrameFits.{IsLook}
-use Rattle.mr_reasons.specs.FrameFrames.{Look}
-use Rattle.mr_reasons.specs.ThreadSoundState.{SoundState}
-use Rattle.mr_reasons.specs.ThreadSteps.{Own, thread_step}
-use Rattle.mr_exchange.specs.SwapSwap.{IsSane, SwapLaw}
+use Rattle.mr_witness.specs.TypingWalk.{WellFormed}
+use Rattle.mr_witness.specs.PlanMachine.{Bare, Completed, State, bare}
+use Rattle.mr_witness.specs.PlanRuns.{AreLegal, Config, Printed, after, entry_fault, feet, foot_of_bare, machine_step}
+use Rattle.mr_witness.specs.FrameFits.{IsLook}
+use Rattle.mr_witness.specs.FrameFrames.{Look}
+use Rattle.mr_witness.specs.ThreadSoundState.{SoundState}
+use Rattle.mr_witness.specs.ThreadSteps.{Own, thread_step}
+use Rattle.mr_exchange.specs.Swap.{IsSane, SwapLaw}
 use Rattle.mr_exchange.proofs.Exchanged.{NotesThread}
 use Rattle.mr_exchange.specs.Witness.{IsPrefix, entries_of, entry_at}
 use Rattle.mr_witness.proofs.Lists.{after_append, feet_append, feet_length, filter_map, legal_append, map_append, map_places}

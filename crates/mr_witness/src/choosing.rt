@@ -7,7 +7,7 @@ ghost use Rattle.mr_event.specs.declared.footprint.Pair.{Pair as PairOf};
 ghost use Rattle.mr_event.specs.Order.{places};
 ghost use Rattle.mr_event.specs.Predicted.{predicted};
 ghost use Rattle.mr_exchange.specs.StartRuns.{Legal, steps_of};
-ghost use Rattle.mr_reasons.specs.TypingWalk.{WellFormed};
+ghost use Rattle.mr_witness.specs.TypingWalk.{WellFormed};
 ghost use Rattle.mr_exchange.specs.Witness.{IsWitness, entry_at, kept_schedule};
 
 use mr_clocks::follows;

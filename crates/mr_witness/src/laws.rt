@@ -6,7 +6,7 @@ ghost use Rattle.mr_event.specs.declared.footprint.Pair.{Pair};
 ghost use Rattle.mr_event.specs.Predicted.{predicted};
 ghost use Rattle.mr_sched.specs.declared.schedule.Schedule.{Schedule};
 ghost use Rattle.mr_exchange.specs.StartRuns.{Legal, steps_of};
-ghost use Rattle.mr_reasons.specs.TypingWalk.{WellFormed};
+ghost use Rattle.mr_witness.specs.TypingWalk.{WellFormed};
 ghost use Rattle.mr_exchange.specs.Witness.{IsWitness, kept_schedule};
 
 /// A law: the kept schedule of the first race of a legal run is a witness for it.

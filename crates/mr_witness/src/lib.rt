@@ -20,12 +20,17 @@
 //!   schedule is legal, its steps are the recorded ones and race no more than these, and it ends in the same state with the
 //!   same prints of each thread and the same verdict.
 //! - [`entry_copied`]: a copy of an entry, for other choices of entries.
+//! - [`races_are_of_the_check`]: a law: no step itself stops with a data race, whatever the program and the state are. So a run
+//!   that ends with this verdict ends behind a completed step, by the race check. A step is looked at by its form: no script
+//!   refuses with this reason (`proofs/Expressions.antt`, `proofs/Frames.antt`, `proofs/Steps.antt`), and neither memory nor the
+//!   tables of threads and locks do (`proofs/Queries.antt`).
 #![tactic(auto)]
 
 mod choosing;
 mod laws;
 mod orders;
 mod placing;
+mod reasons;
 mod shortening;
 mod shuffling;
 
@@ -34,5 +39,6 @@ pub use laws::first_race_has_a_witness;
 pub use mr_event::{Footprint, OutOfMemory, Pair};
 pub use mr_sched::{Entry, Schedule};
 pub use orders::every_order;
+pub use reasons::races_are_of_the_check;
 pub use shortening::short;
 pub use shuffling::shuffle;

@@ -6,7 +6,7 @@ ghost use Rattle.mr_event.specs.Order.{IsRearrangement};
 ghost use Rattle.mr_event.specs.Predicted.{predicted};
 ghost use Rattle.mr_sched.specs.declared.schedule.Schedule.{Schedule};
 ghost use Rattle.mr_exchange.specs.StartRuns.{Legal, steps_of};
-ghost use Rattle.mr_reasons.specs.TypingWalk.{WellFormed};
+ghost use Rattle.mr_witness.specs.TypingWalk.{WellFormed};
 ghost use Rattle.mr_witness.specs.EveryOrder.{ComesToTheSame, reordered};
 
 /// A law: where no race is listed of a legal run, the schedule in every rearranged order comes to the same.

@@ -9,7 +9,7 @@ ghost use Rattle.mr_event.specs.Order.{places};
 ghost use Rattle.mr_event.specs.Predicted.{predicted};
 ghost use Rattle.mr_sched.specs.declared.schedule.Entry.{Entry as EntryOf};
 ghost use Rattle.mr_exchange.specs.StartRuns.{Legal, steps_of};
-ghost use Rattle.mr_reasons.specs.TypingWalk.{WellFormed};
+ghost use Rattle.mr_witness.specs.TypingWalk.{WellFormed};
 ghost use Rattle.mr_exchange.specs.Witness.{IsWitness, entry_at, kept_schedule};
 ghost use Rattle.mr_witness.specs.Marks.{AreEnds, AreMarks};
 ghost use Rattle.mr_witness.specs.Short.{short_schedule};

@@ -5,7 +5,7 @@ ghost use Rattle.mr_ast.specs.declared.program.Program.{Program};
 ghost use Rattle.mr_event.specs.Order.{IsRearrangement};
 ghost use Rattle.mr_event.specs.Predicted.{predicted};
 ghost use Rattle.mr_exchange.specs.StartRuns.{Legal, steps_of};
-ghost use Rattle.mr_reasons.specs.TypingWalk.{WellFormed};
+ghost use Rattle.mr_witness.specs.TypingWalk.{WellFormed};
 ghost use Rattle.mr_exchange.specs.Witness.{entry_at};
 ghost use Rattle.mr_witness.specs.EveryOrder.{ComesToTheSame};
 ghost use Rattle.mr_witness.specs.Shuffled.{shuffled, shuffled_order as drawn_order};

@@ -1,6 +1,6 @@
 use Rattle.std.proofs.Common.{◌≡◌, ◌+◌, ◌<◌, ◌^◌, sym, ◌∙◌, subst, Err, Ok}
 use Rattle.mr_step.specs.PlanRuns.{feet}
-use Rattle.mr_start.specs.ThreadSteps.{thread_step}
+use Rattle.mr_start.specs.Steps.{thread_step}
 use Rattle.mr_typing.specs.Walk.{WellFormed}
 use Rattle.mr_start.specs.Start.{pieces}
 use Rattle.mr_step.specs.Answers.{StartAnswer, fault_of, standing}

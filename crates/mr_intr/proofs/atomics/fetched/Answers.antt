@@ -1,5 +1,5 @@
 use Rattle.std.proofs.Common.{refl}
-use Rattle.mr_intops.specs.declared.arithmetic.ArithOp.TheVariants.{Add, And, Or, Sub, Xor}
+use Rattle.mr_eval.specs.declared.arithmetic.ArithOp.TheVariants.{Add, And, Or, Sub, Xor}
 use Rattle.mr_intr.proofs.AtomicLaws.{computed_small}
 use Rattle.mr_intr.proofs.atomics.fetched.Goals as goal
 

@@ -1,9 +1,9 @@
 use Rattle.std.proofs.Common.{◌≡◌, ◌+◌, suc, sym, subst, arith}
 use Rattle.std.proofs.lemmas.Result.{err_from_is_err_and}
 use Rattle.mr_ast.specs.ProgramGrammar.{local_form, locals_form}
-use Rattle.mr_reader.specs.Gives.{Gives}
+use Rattle.mr_parse.specs.ReaderGives.{Gives}
 use Rattle.mr_grammar.specs.Reading.{read}
-use Rattle.mr_reader.proofs.Walk.LoopLaws.{comma_pushed_goes_on, comma_pushed_stops, comma_is_done, comma_is_past}
+use Rattle.mr_parse.proofs.Walk.LoopLaws.{comma_pushed_goes_on, comma_pushed_stops, comma_is_done, comma_is_past}
 use Rattle.mr_parse.proofs.program.locals.Goals as goal
 
 pub returns-then-not-is_next : goal.returns-then-not-is_next

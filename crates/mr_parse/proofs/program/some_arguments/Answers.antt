@@ -3,7 +3,7 @@ use Rattle.std.proofs.lemmas.Result.{err_from_is_err_and}
 use Rattle.mr_ast.specs.Writing.{local_use}
 use Rattle.mr_ast.specs.ProgramGrammar.{args_form}
 use Rattle.mr_grammar.specs.Reading.{read}
-use Rattle.mr_reader.proofs.Walk.LoopLaws.{comma_pushed_goes_on, comma_pushed_stops, comma_is_done, comma_is_past}
+use Rattle.mr_parse.proofs.Walk.LoopLaws.{comma_pushed_goes_on, comma_pushed_stops, comma_is_done, comma_is_past}
 use Rattle.mr_parse.proofs.program.some_arguments.Goals as goal
 
 pub returns-then-not-is_next : goal.returns-then-not-is_next

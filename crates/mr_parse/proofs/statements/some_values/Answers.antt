@@ -4,7 +4,7 @@ use Rattle.mr_ast.specs.Forms.{Part}
 use Rattle.mr_ast.specs.Writing.{TheValue}
 use Rattle.mr_ast.specs.ProgramGrammar.{values_form}
 use Rattle.mr_grammar.specs.Reading.{read}
-use Rattle.mr_reader.proofs.Walk.LoopLaws.{comma_pushed_goes_on, comma_pushed_stops, comma_is_done, comma_is_past}
+use Rattle.mr_parse.proofs.Walk.LoopLaws.{comma_pushed_goes_on, comma_pushed_stops, comma_is_done, comma_is_past}
 use Rattle.mr_parse.proofs.statements.some_values.Goals as goal
 
 pub returns-then-not-is_next : goal.returns-then-not-is_next

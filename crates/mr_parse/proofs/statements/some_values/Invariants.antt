@@ -4,7 +4,7 @@ use Rattle.mr_ast.specs.Forms.{Part}
 use Rattle.mr_ast.specs.Writing.{TheValue}
 use Rattle.mr_ast.specs.ProgramGrammar.{values_form}
 use Rattle.mr_grammar.specs.Reading.{read, many_at}
-use Rattle.mr_reader.proofs.Walk.LoopLaws.{with_front}
+use Rattle.mr_parse.proofs.Walk.LoopLaws.{with_front}
 use Rattle.mr_parse.proofs.statements.some_values.Given as goal
 
 abbrev pub invariant-loop : goal.invariant-loop

@@ -3,7 +3,7 @@ use Rattle.std.proofs.lemmas.Result.{err_from_is_err_and}
 use Rattle.mr_ast.specs.ProgramGrammar.{switch_case_form, switch_cases_form}
 use Rattle.mr_ast.specs.Writing.{other_than}
 use Rattle.mr_grammar.specs.Reading.{read}
-use Rattle.mr_reader.proofs.Walk.LoopLaws.{goes_on, stops, is_done, is_past}
+use Rattle.mr_parse.proofs.Walk.LoopLaws.{goes_on, stops, is_done, is_past}
 use Rattle.mr_parse.proofs.statements.switch_cases.Goals as goal
 
 pub returns-then-not-is_other : goal.returns-then-not-is_other

@@ -4,7 +4,7 @@ use Rattle.mr_clocks.specs.Tracked.{Tracks}
 use Rattle.mr_event.specs.Footprint.{Footprint}
 use Rattle.mr_event.specs.Predicted.{predicted}
 use Rattle.mr_plan.specs.Runs.{Config}
-use Rattle.mr_start.specs.ThreadSteps.{Own}
+use Rattle.mr_start.specs.Steps.{Own}
 use Rattle.mr_input.specs.declared.written.Written.{Written}
 use Rattle.mr_input.specs.Answer.{Answer, seen as written_as}
 use Rattle.mr_listing.specs.declared.held.StepValues.{StepValues}

@@ -11,7 +11,7 @@ use Rattle.mr_frame.specs.PlanQueries.{Shared}
 use Rattle.mr_frame.specs.Doing.{operands_of}
 use Rattle.mr_frame.specs.Effects.{argued}
 use Rattle.mr_frame.specs.Kept.{look_of}
-use Rattle.mr_start.specs.ThreadSteps.{Turn}
+use Rattle.mr_start.specs.Steps.{Turn}
 use Rattle.mr_turn.specs.Turning.{Does, IsSame, StopAnswer, TurnAnswer, begun, comes_to, own_of, planned}
 use Rattle.mr_eval.specs.declared.scene.Scene.{Scene}
 use Rattle.mr_turn.specs.Doing.{do_breaks, do_comes_to}

@@ -1,5 +1,5 @@
 use Rattle.std.proofs.Common.{◌∙◌, length, arith, sym, subst, ap}
-use Rattle.mr_order.proofs.First.{first_of_predicted}
+use Rattle.mr_exchange.proofs.First.{first_of_predicted}
 use Rattle.mr_witness.proofs.Chosen.{pushed_twice}
 use Rattle.mr_witness.specs.Marks.{AreMarks}
 use Rattle.mr_witness.proofs.ShortChosen.{both_copied}

@@ -1,9 +1,0 @@
-use Rattle.std.proofs.Common.{◌∙◌, sym, ap₂}
-use Rattle.std.specs.Prelude.{not}
-use Rattle.mr_intops.proofs.NumberLaws.{bits_for-product}
-use Rattle.mr_intops.proofs.Widths.{mod-128}
-use Rattle.mr_intops.proofs.arithmetic.product.Goals as goal
-
-pub returns : goal.returns
-returns c =
-    ap₂ (λ bits fits. (bits, not fits)) (c.truncated-bits.ensures ∙ mod-128 c.args.t _ ∙ sym (bits_for-product c.args.t c.args.a c.args.b)) c.product_fits.ensures

@@ -1,7 +1,0 @@
-use Rattle.std.proofs.Common.{◌∙◌, sym}
-use Rattle.mr_intops.proofs.NumberLaws.{bits_for-times_pow}
-use Rattle.mr_intops.proofs.Widths.{mod-128}
-use Rattle.mr_intops.proofs.shifts.left.Goals as goal
-
-pub returns : goal.returns
-returns c = c.truncated.ensures ∙ mod-128 c.args.t _ ∙ sym (bits_for-times_pow c.args.t c.args.a c.args.amount)

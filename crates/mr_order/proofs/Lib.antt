@@ -1,9 +1,0 @@
-pub mod Choices
-pub mod Examples
-pub mod First
-pub mod Lists
-pub mod Moves
-pub mod Placing
-pub mod Rearranged
-pub mod Unordered
-pub mod Witness

@@ -1,0 +1,11 @@
+use Rattle.std.proofs.Common.{◌≡◌, ◌-◌, codes}
+use Rattle.mr_ast.specs.Writing.{◌▸◌, is_word}
+use Rattle.mr_ast.specs.TypeGrammar.{chunk_form, chunks_form}
+use Rattle.mr_grammar.specs.Reading.{read, many_at}
+use Rattle.mr_parse.proofs.Walk.LoopLaws.{with_front}
+use Rattle.mr_parse.proofs.reader.Reader.some_chunks.Given as goal
+
+abbrev pub invariant-loop : goal.invariant-loop
+invariant-loop l =
+    with_front l.chunks (many_at (λ k. read l.room l.scope (codes "," ▸ chunk_form)) (is_word (codes ",")) (l.most - l.counter) l.counter l.self)
+    ≡ read l.room l.scope chunks_form l.fn.self

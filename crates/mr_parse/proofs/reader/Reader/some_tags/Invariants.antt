@@ -1,0 +1,11 @@
+use Rattle.std.proofs.Common.{◌≡◌, ◌-◌, codes}
+use Rattle.mr_ast.specs.Writing.{◌▸◌, is_word}
+use Rattle.mr_ast.specs.TypeGrammar.{tag_form, tags_form}
+use Rattle.mr_grammar.specs.Reading.{read, many_at}
+use Rattle.mr_parse.proofs.Walk.LoopLaws.{with_front}
+use Rattle.mr_parse.proofs.reader.Reader.some_tags.Given as goal
+
+abbrev pub invariant-loop : goal.invariant-loop
+invariant-loop l =
+    with_front l.tags (many_at (λ k. read l.room l.scope (codes "," ▸ tag_form)) (is_word (codes ",")) (l.most - l.counter) l.counter l.self)
+    ≡ read l.room l.scope tags_form l.fn.self
