@@ -88,8 +88,7 @@ more_values_form = Many (is_word (codes ",")) (λ k. codes "," ▸ Part TheValue
 
 -- a tuple or an array
 unfoldable pub tuple_value_form : Writing Value
-tuple_value_form =
-    giving (λ parts. value.Tuple parts.0 parts.1) (within Round (Part TheType ▪ more_values_form))
+tuple_value_form = giving (λ parts. value.Tuple parts.0 parts.1) (within Round (Part TheType ▪ more_values_form))
 
 -- a union
 unfoldable pub union_value_form : Writing Value

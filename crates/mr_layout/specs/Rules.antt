@@ -54,8 +54,7 @@ tuple_rules size align fields =
 
 -- the first broken rule of a reference
 unfoldable pub ref_rules : ℕ → ℕ → Option Rule
-ref_rules size align =
-    rule TypeSize (not (nat_lt size (2 ^ 63))) (rule TypeAlign (not (is_align align)) None)
+ref_rules size align = rule TypeSize (not (nat_lt size (2 ^ 63))) (rule TypeAlign (not (is_align align)) None)
 
 -- the first broken rule of an array, whose element breaks none
 unfoldable pub array_rules : ℕ → Ty → Option Rule
