@@ -67,10 +67,9 @@ value_word_of text = elim (looked_up int_words text) as (λ _. Option ValueWord)
   | Some i ↦ Some (value_word.Int i)
   | None ↦ elim (looked_up unary_words text) as (λ _. Option ValueWord) [
     | Some o ↦ Some (value_word.Unary o)
-    | None ↦ elim (looked_up binary_words text) as (λ _. Option ValueWord) [
-      | Some o ↦ Some (value_word.Binary o)
-      | None ↦ looked_up value_words text
-    ]
+    | None ↦
+        elim (looked_up binary_words text) as
+        (λ _. Option ValueWord) [ Some o ↦ Some (value_word.Binary o) | None ↦ looked_up value_words text ]
   ]
 ]
 

@@ -40,8 +40,7 @@ Big number = OfNumber number
 -- the format of the report that this word asks for
 abbrev pub format_of : List ℕ → Option Format
 format_of word =
-    if bytes_eq word (codes "run") then Some Text
-    else (if bytes_eq word (codes "json") then Some Json
+    if bytes_eq word (codes "run") then Some Text else (if bytes_eq word (codes "json") then Some Json
     else (if bytes_eq word (codes "short") then Some Short
     else (if bytes_eq word (codes "trace") then Some Footprints else None)))
 

@@ -99,8 +99,7 @@ is_power_of_two n = count_ones n == 1
 abbrev pub allocating : ℕ → ℕ → Operation
 allocating size align =
     if nat_lt (2 ^ 63 - 1) size then Undefined (plainly SizeTooLarge)
-    else (if is_power_of_two align
-    then Done
+    else (if is_power_of_two align then Done
     (with_pick (Address size align) (λ a. Asks (OfMemory (Allocate Heap size align a)) (λ p. Done (Some (val.Ptr p)))))
     else Undefined (plainly BadAlign))
 
