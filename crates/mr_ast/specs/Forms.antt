@@ -65,10 +65,7 @@ SpelledBy full inside part scope (Many test form) xs marks =
     EachSpelled (λ k. SpelledBy full inside part scope (form k)) 0 xs marks
 SpelledBy full inside part scope (Within {A} over bracket a) x marks =
     (start : Word) × (end : Word) × (between : List Mark) × (start.text ≡ opening bracket)
-    × (end.text ≡ closing bracket)
-    × (marks
-    ≡ record { word = start; flaw = if over || full then Some 7 else None }
-    ∷ between ++ record { word = end; flaw = None } ∷ [])
-    × inside scope A a x between
+    × (end.text ≡ closing bracket) × (marks ≡ record { word = start; flaw = if over || full then Some 7 else None }
+    ∷ between ++ record { word = end; flaw = None } ∷ []) × inside scope A a x between
 SpelledBy full inside part scope (Part p) x marks = part scope p x marks
 SpelledBy full inside part scope (In into a) x marks = SpelledBy full inside part (into scope) a x marks

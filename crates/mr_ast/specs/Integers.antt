@@ -55,7 +55,6 @@ fits t z = int_le (least_of t) z && int_le z (greatest_of t)
 -- a written number is one of the integer's; minus 0 isn't written
 abbrev pub is_fitting : IntType → Num → Bool
 is_fitting i n =
-    if is_signed i
-    then (if n.neg then nat_lt 0 n.mag && nat_le n.mag (2 ^ (8 * int_size i - 1))
+    if is_signed i then (if n.neg then nat_lt 0 n.mag && nat_le n.mag (2 ^ (8 * int_size i - 1))
     else nat_lt n.mag (2 ^ (8 * int_size i - 1)))
     else ((not n.neg) && nat_lt n.mag (2 ^ (8 * int_size i)))

@@ -274,8 +274,6 @@ judged_edition w = fine (looked_up edition_words w.text)
 -- a program
 unfoldable pub program_form : Writing ProgramBody
 program_form =
-    codes "minirust"
-    ▸ Then
-    (λ edition parts.
+    codes "minirust" ▸ Then (λ edition parts.
     record { edition = edition; globals = parts.0.0; functions = parts.0.1; start = parts.1 })
     (token judged_edition) ((globals_form ▪ functions_form) ▪ codes "main" ▸ function_use)

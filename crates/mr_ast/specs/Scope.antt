@@ -98,10 +98,9 @@ target_of globals None = (target.Global (record { 0 = 0 }), Some 5)
 
 -- what a name stands for; where the definitions aren't known yet, its place among the words
 abbrev pub name_number : Scope → Role → Word → ℕ × Option ℕ
-name_number scope role word = elim scope.known as (λ _. ℕ × Option ℕ) [
-  | Some d ↦ number_of_name d scope.function role word.text
-  | None ↦ (word.place, None)
-]
+name_number scope role word =
+    elim scope.known as (λ _. ℕ × Option ℕ)
+    [ Some d ↦ number_of_name d scope.function role word.text | None ↦ (word.place, None) ]
 
 -- the same of a name that may be a global's or a function's
 abbrev pub name_target : Scope → Word → Target × Option ℕ

@@ -67,10 +67,9 @@ value_word_of text = elim (looked_up int_words text) as (λ _. Option ValueWord)
   | Some i ↦ Some (value_word.Int i)
   | None ↦ elim (looked_up unary_words text) as (λ _. Option ValueWord) [
     | Some o ↦ Some (value_word.Unary o)
-    | None ↦ elim (looked_up binary_words text) as (λ _. Option ValueWord) [
-      | Some o ↦ Some (value_word.Binary o)
-      | None ↦ looked_up value_words text
-    ]
+    | None ↦
+        elim (looked_up binary_words text) as
+        (λ _. Option ValueWord) [ Some o ↦ Some (value_word.Binary o) | None ↦ looked_up value_words text ]
   ]
 ]
 
@@ -88,8 +87,7 @@ more_values_form = Many (is_word (codes ",")) (λ k. codes "," ▸ Part TheValue
 
 -- a tuple or an array
 unfoldable pub tuple_value_form : Writing Value
-tuple_value_form =
-    giving (λ parts. value.Tuple parts.0 parts.1) (within Round (Part TheType ▪ more_values_form))
+tuple_value_form = giving (λ parts. value.Tuple parts.0 parts.1) (within Round (Part TheType ▪ more_values_form))
 
 -- a union
 unfoldable pub union_value_form : Writing Value

@@ -77,16 +77,14 @@ IsEdition n = (n ≡ 1) ⊎ (n ≡ 2)
 abbrev pub int_words : Table IntType
 int_words =
     (codes "u8", int.U8) ∷ (codes "u16", int.U16) ∷ (codes "u32", int.U32) ∷ (codes "u64", int.U64)
-    ∷ (codes "u128", int.U128)
-    ∷ (codes "i8", int.I8) ∷ (codes "i16", int.I16) ∷ (codes "i32", int.I32) ∷ (codes "i64", int.I64)
-    ∷ (codes "i128", int.I128) ∷ []
+    ∷ (codes "u128", int.U128) ∷ (codes "i8", int.I8) ∷ (codes "i16", int.I16) ∷ (codes "i32", int.I32)
+    ∷ (codes "i64", int.I64) ∷ (codes "i128", int.I128) ∷ []
 
 -- the types whose word isn't that of an integer
 abbrev pub type_words : Table TypeWord
 type_words =
     (codes "bool", type.Bool) ∷ (codes "raw", type.Raw) ∷ (codes "fnptr", type.FnPtr) ∷ (codes "unit", type.Unit)
-    ∷ (codes "ref", type.Ref)
-    ∷ (codes "tuple", type.Tuple) ∷ (codes "array", type.Array) ∷ (codes "union", type.Union)
+    ∷ (codes "ref", type.Ref) ∷ (codes "tuple", type.Tuple) ∷ (codes "array", type.Array) ∷ (codes "union", type.Union)
     ∷ (codes "enum", type.Enum) ∷ []
 
 -- the trees
@@ -105,22 +103,18 @@ binary_words =
     ∷ (codes "add_unchecked", binary.AddUnchecked) ∷ (codes "sub_unchecked", binary.SubUnchecked)
     ∷ (codes "mul_unchecked", binary.MulUnchecked) ∷ (codes "add_overflow", binary.AddOverflow)
     ∷ (codes "sub_overflow", binary.SubOverflow) ∷ (codes "mul_overflow", binary.MulOverflow)
-    ∷ (codes "shl", binary.Shl)
-    ∷ (codes "shr", binary.Shr) ∷ (codes "shl_unchecked", binary.ShlUnchecked)
-    ∷ (codes "shr_unchecked", binary.ShrUnchecked)
-    ∷ (codes "eq", binary.Eq) ∷ (codes "ne", binary.Ne) ∷ (codes "lt", binary.Lt) ∷ (codes "le", binary.Le)
-    ∷ (codes "gt", binary.Gt)
-    ∷ (codes "ge", binary.Ge) ∷ (codes "offset", binary.Offset) ∷ (codes "wrapping_offset", binary.WrappingOffset) ∷ []
+    ∷ (codes "shl", binary.Shl) ∷ (codes "shr", binary.Shr) ∷ (codes "shl_unchecked", binary.ShlUnchecked)
+    ∷ (codes "shr_unchecked", binary.ShrUnchecked) ∷ (codes "eq", binary.Eq) ∷ (codes "ne", binary.Ne)
+    ∷ (codes "lt", binary.Lt) ∷ (codes "le", binary.Le) ∷ (codes "gt", binary.Gt) ∷ (codes "ge", binary.Ge)
+    ∷ (codes "offset", binary.Offset) ∷ (codes "wrapping_offset", binary.WrappingOffset) ∷ []
 
 -- the values whose word is no integer type and no operator
 abbrev pub value_words : Table ValueWord
 value_words =
     (codes "true", value.True) ∷ (codes "false", value.False) ∷ (codes "raw", value.Raw) ∷ (codes "fn", value.Fn)
     ∷ (codes "global", value.Global) ∷ (codes "tuple", value.Tuple) ∷ (codes "union", value.Union)
-    ∷ (codes "variant", value.Variant)
-    ∷ (codes "load", value.Load) ∷ (codes "disc", value.Disc) ∷ (codes "addrof", value.AddrOf)
-    ∷ (codes "cast", value.Cast)
-    ∷ (codes "transmute", value.Transmute) ∷ []
+    ∷ (codes "variant", value.Variant) ∷ (codes "load", value.Load) ∷ (codes "disc", value.Disc)
+    ∷ (codes "addrof", value.AddrOf) ∷ (codes "cast", value.Cast) ∷ (codes "transmute", value.Transmute) ∷ []
 
 -- the statements that are no assignment
 abbrev pub stmt_words : Table StmtWord
@@ -132,10 +126,9 @@ stmt_words =
 abbrev pub term_words : Table TermWord
 term_words =
     (codes "goto", term.Goto) ∷ (codes "switch", term.Switch) ∷ (codes "unreachable", term.Unreachable)
-    ∷ (codes "return", term.Return)
-    ∷ (codes "exit", term.Exit) ∷ (codes "abort", term.Abort) ∷ (codes "resume", term.Resume)
-    ∷ (codes "stop", term.Stop)
-    ∷ (codes "unwind", term.Unwind) ∷ (codes "call", term.Call) ∷ (codes "do", term.Do) ∷ []
+    ∷ (codes "return", term.Return) ∷ (codes "exit", term.Exit) ∷ (codes "abort", term.Abort)
+    ∷ (codes "resume", term.Resume) ∷ (codes "stop", term.Stop) ∷ (codes "unwind", term.Unwind)
+    ∷ (codes "call", term.Call) ∷ (codes "do", term.Do) ∷ []
 
 -- the words that are no names: those of statements and of terminators, and two more
 abbrev pub reserved : Texts
@@ -157,11 +150,10 @@ intrinsic_words =
     (codes "assume", intrinsic.Assume) ∷ (codes "print", intrinsic.Print) ∷ (codes "allocate", intrinsic.Allocate)
     ∷ (codes "deallocate", intrinsic.Deallocate) ∷ (codes "spawn", intrinsic.Spawn) ∷ (codes "join", intrinsic.Join)
     ∷ (codes "create_lock", intrinsic.CreateLock) ∷ (codes "acquire", intrinsic.Acquire)
-    ∷ (codes "release", intrinsic.Release)
-    ∷ (codes "atomic_store", intrinsic.AtomicStore) ∷ (codes "atomic_load", intrinsic.AtomicLoad)
-    ∷ (codes "compare_exchange", intrinsic.CompareExchange) ∷ (codes "fetch_add", intrinsic.FetchAdd)
-    ∷ (codes "fetch_sub", intrinsic.FetchSub) ∷ (codes "fetch_and", intrinsic.FetchAnd)
-    ∷ (codes "fetch_or", intrinsic.FetchOr)
+    ∷ (codes "release", intrinsic.Release) ∷ (codes "atomic_store", intrinsic.AtomicStore)
+    ∷ (codes "atomic_load", intrinsic.AtomicLoad) ∷ (codes "compare_exchange", intrinsic.CompareExchange)
+    ∷ (codes "fetch_add", intrinsic.FetchAdd) ∷ (codes "fetch_sub", intrinsic.FetchSub)
+    ∷ (codes "fetch_and", intrinsic.FetchAnd) ∷ (codes "fetch_or", intrinsic.FetchOr)
     ∷ (codes "fetch_xor", intrinsic.FetchXor) ∷ (codes "payload", intrinsic.Payload) ∷ []
 
 -- the words for casts between pointers and integers, which no program may have

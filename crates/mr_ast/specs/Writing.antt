@@ -144,8 +144,7 @@ num_form =
 -- a name, one too many (8) or not, and what it stands for
 unfoldable pub judged_name : Bool → Role → Scope → Word → Judged ℕ
 judged_name over role scope w =
-    if is_name w.text then
-    (let found = name_number scope role w in Some (found.0, if over then Some 8 else found.1))
+    if is_name w.text then (let found = name_number scope role w in Some (found.0, if over then Some 8 else found.1))
     else None
 
 -- a name in this role, which is one too many where over holds

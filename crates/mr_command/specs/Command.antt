@@ -8,9 +8,8 @@ use Rattle.mr_command.specs.declared.command.Command.TheVariants as words
 use Rattle.mr_command.specs.declared.command.Saying.{Saying}
 use Rattle.mr_command.specs.declared.command.Saying.TheVariants.{Canonical, Drawn}
 
--- What is asked for, by the files that are read for it: a run of the program in one file under the schedule in another,
--- with its report in a format; something that is said of the program in a file; the schedule in a file, written in
--- version 2; the races that the trace in a file shows; or, of no file, a run of the program of a number.
+-- What is asked for, by the files that are read: a run of a program under a schedule, reported in a format; something
+-- said of a program; a schedule in version 2; the races of a trace; or, of no file, a run of the program of a number.
 pub data Command : Type 0 where
   Run : (format : Format) (program schedule : List ℕ) → Command
   OfProgram : (saying : Saying) (program : List ℕ) → Command
@@ -41,8 +40,7 @@ Big number = OfNumber number
 -- the format of the report that this word asks for
 abbrev pub format_of : List ℕ → Option Format
 format_of word =
-    if bytes_eq word (codes "run") then Some Text
-    else (if bytes_eq word (codes "json") then Some Json
+    if bytes_eq word (codes "run") then Some Text else (if bytes_eq word (codes "json") then Some Json
     else (if bytes_eq word (codes "short") then Some Short
     else (if bytes_eq word (codes "trace") then Some Footprints else None)))
 
@@ -72,8 +70,7 @@ big_of (Some number) = Some (Big number)
 abbrev pub command_of : List (List ℕ) → Option Command
 command_of (word ∷ program ∷ schedule ∷ []) = run_of (format_of word) program schedule
 command_of (word ∷ program ∷ number ∷ most ∷ []) =
-    if bytes_eq word (codes "auto")
-    then auto_of program (number_below (2 ^ 64) number) (number_below (2 ^ 20 + 1) most)
+    if bytes_eq word (codes "auto") then auto_of program (number_below (2 ^ 64) number) (number_below (2 ^ 20 + 1) most)
     else (if bytes_eq word (codes "shuffle") then shuffle_of program number (number_below (2 ^ 64) most) else None)
 command_of (word ∷ name ∷ []) =
     if bytes_eq word (codes "check") then Some (Check name)

@@ -30,8 +30,8 @@ pub record Extends (old new : Seen) : Type 0 where
   pub touched : List AllocId
   pub is : new ≡ record { accesses = old.accesses ++ accesses; touched = old.touched ++ touched }
 
--- What a function returned, seen by view, and the notes that it left are what the run comes to, unless memory ran out. A
--- stop speaks of the bytes that were refused last, where its reason speaks of bytes.
+-- What a function returned, seen by view, and the notes that it left are what the run comes to, unless memory ran out.
+-- A stop speaks of the bytes that were refused last, where its reason speaks of bytes.
 abbrev pub Gives : {X Y S : Type 0} → (X → Y) → Result X Halt → Outcome Y S → S → Option Reached → Type 0
 Gives view (Ok x) o s last = o ≡ Went (view x) s
 Gives view (Err (halt.Undefined r)) o s last = o ≡ Refused (stop_with last r)

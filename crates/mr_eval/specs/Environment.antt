@@ -68,8 +68,8 @@ pub record ShapedAs (s : Surround) (v : Value) (x : Val) : Type 0 where
 
 -- ---- answers
 
--- What a call returned and left of the state is what the run comes to, unless memory ran out. A stop speaks of the bytes
--- that were refused last, where its reason speaks of bytes.
+-- What a call returned and left of the state is what the run comes to, unless memory ran out. A stop speaks of the
+-- bytes that were refused last, where its reason speaks of bytes.
 abbrev pub Tells : {X S : Type 0} → Result X Fault → Outcome X S → S → Option Reached → Type 0
 Tells (Ok x) o s last = o ≡ Went x s
 Tells (Err (fault.Undefined r)) o s last = o ≡ Refused (stop_with last r)

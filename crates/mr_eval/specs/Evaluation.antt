@@ -62,8 +62,7 @@ elements_in (Some t) = elements (out-Ty t)
 
 -- the element at a position
 abbrev pub element_at : Pointer → ℕ → ℕ × ℕ → ReadScript Pointer
-element_at p i e =
-    if nat_lt i e.0 then moved p (pos (i * e.1)) else Undefined (plainly IndexOutOfRange)
+element_at p i e = if nat_lt i e.0 then moved p (pos (i * e.1)) else Undefined (plainly IndexOutOfRange)
 
 -- a place as a variant of its type, which must have it
 abbrev pub as_variant : Option Ty → Num → Pointer → ReadScript Pointer
@@ -72,9 +71,7 @@ as_variant t n p = if is_some (chained t (λ u. variant_type u n)) then Done p e
 -- one level of a place, with each part beside its evaluation
 abbrev pub place_step : Surround → Place-F (Place × ReadScript Pointer) (Value × ReadScript Val) → ReadScript Pointer
 place_step s (Place-F.Local x) = stored (slice_get s.storage x.0)
-place_step s (Place-F.Deref pointer ty) = do
-  v ← pointer.1
-  pointer_of_value v
+place_step s (Place-F.Deref pointer ty) = pointer.1 >>= λ v. pointer_of_value v
 place_step s (Place-F.Field whole number) = do
   p ← whole.1
   offset ← or_ill_formed (offset_in (type_of_place s.locals whole.0) number)
@@ -85,19 +82,15 @@ place_step s (Place-F.Index array index) = do
   i ← index_of_value v
   e ← or_ill_formed (elements_in (type_of_place s.locals array.0))
   element_at p i e
-place_step s (Place-F.Place::Variant whole number) = do
-  p ← whole.1
-  as_variant (type_of_place s.locals whole.0) number p
+place_step s (Place-F.Place::Variant whole number) =
+    whole.1 >>= λ p. as_variant (type_of_place s.locals whole.0) number p
 
 -- ---- values
 
 -- the values of parts, from left to right
 abbrev pub in_order : List (Value × ReadScript Val) → ReadScript (List Val)
 in_order [] = Done []
-in_order (v ∷ vs) = do
-  x ← v.1
-  xs ← in_order vs
-  Done (x ∷ xs)
+in_order (v ∷ vs) = v.1 >>= λ x. in_order vs >>= λ xs. Done (x ∷ xs)
 
 -- the bytes of a union's chunks, of which a field is written
 abbrev pub union_layer : Ty-F Ty Variant → ℕ → Val → Option Bytes
@@ -107,15 +100,12 @@ union_layer _ n v = None
 
 -- the value of a union whose field of this number is written, and nothing else of it
 abbrev pub union_of : Ty → ℕ → Val → ReadScript Val
-union_of t n v = do
-  bytes ← or_ill_formed (union_layer (out-Ty t) n v)
-  Done (val.Union bytes)
+union_of t n v = or_ill_formed (union_layer (out-Ty t) n v) >>= λ bytes. Done (val.Union bytes)
 
 -- the discriminant of what lies at a pointer, as an integer of its type
 abbrev pub discriminant_layer : Ty-F Ty Variant → Pointer → ReadScript Val
-discriminant_layer (Ty-F.Enum size align disc variants tree) p = do
-  n ← searched tree p
-  Done (val.Int (bits_of_number disc n))
+discriminant_layer (Ty-F.Enum size align disc variants tree) p =
+    searched tree p >>= λ n. Done (val.Int (bits_of_number disc n))
 discriminant_layer _ p = IllFormed
 
 -- the discriminant of the enum at the pointer, whose type is to be known
@@ -131,7 +121,8 @@ loaded (Some t) p = loading t p
 -- the bytes of a value, whose type's shape it must have, taken for another type
 abbrev pub transmuted : Ty → Option Ty → Val → ReadScript Val
 transmuted to None v = IllFormed
-transmuted to (Some from) v = if has_shape from v then meant (plainly TransmuteInvalid) to (encoding_of from v) else IllFormed
+transmuted to (Some from) v =
+    if has_shape from v then meant (plainly TransmuteInvalid) to (encoding_of from v) else IllFormed
 
 -- a pointer without provenance
 abbrev pub bare : ℕ → Pointer
@@ -143,43 +134,20 @@ value_step s (Value-F.Int int number) = Done (val.Int (bits_of_number int number
 value_step s Value-F.True = Done (val.Bool true)
 value_step s Value-F.False = Done (val.Bool false)
 value_step s (Value-F.Raw address) = Done (val.Ptr (bare address))
-value_step s (Value-F.Fn f) = do
-  p ← or_ill_formed (slice_get s.functions f.0)
-  Done (val.Ptr p)
-value_step s (Value-F.Global g offset) = do
-  p ← or_ill_formed (slice_get s.globals g.0)
-  Done (val.Ptr (behind p offset))
-value_step s (Value-F.Tuple ty values) = do
-  vs ← in_order values
-  Done (val.Tuple vs)
-value_step s (Value-F.Union ty number content) = do
-  v ← content.1
-  union_of ty number v
-value_step s (Value-F.Value::Variant ty number content) = do
-  v ← content.1
-  Done (val.Variant number v)
-value_step s (Value-F.Load place) = do
-  p ← place.1
-  loaded (type_of_place s.locals place.0) p
-value_step s (Value-F.Disc place) = do
-  p ← place.1
-  discriminant_at (type_of_place s.locals place.0) p
-value_step s (Value-F.AddrOf ty place) = do
-  p ← place.1
-  Done (val.Ptr p)
-value_step s (Value-F.Cast int operand) = do
-  v ← operand.1
-  cast_value int (type_of_value s.locals operand.0) v
-value_step s (Value-F.Transmute ty operand) = do
-  v ← operand.1
-  transmuted ty (type_of_value s.locals operand.0) v
-value_step s (Value-F.Unary op operand) = do
-  v ← operand.1
-  unary_of op (type_of_value s.locals operand.0) v
-value_step s (Value-F.Binary op left right) = do
-  a ← left.1
-  b ← right.1
-  binary_of op (type_of_value s.locals left.0) (type_of_value s.locals right.0) a b
+value_step s (Value-F.Fn f) = or_ill_formed (slice_get s.functions f.0) >>= λ p. Done (val.Ptr p)
+value_step s (Value-F.Global g offset) =
+    or_ill_formed (slice_get s.globals g.0) >>= λ p. Done (val.Ptr (behind p offset))
+value_step s (Value-F.Tuple ty values) = in_order values >>= λ vs. Done (val.Tuple vs)
+value_step s (Value-F.Union ty number content) = content.1 >>= λ v. union_of ty number v
+value_step s (Value-F.Value::Variant ty number content) = content.1 >>= λ v. Done (val.Variant number v)
+value_step s (Value-F.Load place) = place.1 >>= λ p. loaded (type_of_place s.locals place.0) p
+value_step s (Value-F.Disc place) = place.1 >>= λ p. discriminant_at (type_of_place s.locals place.0) p
+value_step s (Value-F.AddrOf ty place) = place.1 >>= λ p. Done (val.Ptr p)
+value_step s (Value-F.Cast int operand) = operand.1 >>= λ v. cast_value int (type_of_value s.locals operand.0) v
+value_step s (Value-F.Transmute ty operand) = operand.1 >>= λ v. transmuted ty (type_of_value s.locals operand.0) v
+value_step s (Value-F.Unary op operand) = operand.1 >>= λ v. unary_of op (type_of_value s.locals operand.0) v
+value_step s (Value-F.Binary op left right) =
+    left.1 >>= λ a. right.1 >>= λ b. binary_of op (type_of_value s.locals left.0) (type_of_value s.locals right.0) a b
 
 -- the pointer to a place, and the value of an expression
 unfoldable pub place_script : Surround → Place → ReadScript Pointer
@@ -192,7 +160,4 @@ value_script s = para-Value (ReadScript Pointer) (ReadScript Val) (place_step s)
 -- the values of expressions, from left to right
 abbrev pub values_script : Surround → List Value → ReadScript (List Val)
 values_script s [] = Done []
-values_script s (v ∷ vs) = do
-  x ← value_script s v
-  xs ← values_script s vs
-  Done (x ∷ xs)
+values_script s (v ∷ vs) = value_script s v >>= λ x. values_script s vs >>= λ xs. Done (x ∷ xs)

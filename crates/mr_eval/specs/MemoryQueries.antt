@@ -82,11 +82,7 @@ memory_answer (Modify p size change) w =
 memory_answer (Allocate kind size align addr) w =
     Went (pointer_to (next_id w.1) addr) (
       allocated w.0 (next_id w.1) kind size align addr,
-      record w.1 {
-        made = w.1.made ++ next_id w.1 ∷ [];
-        ranges = w.1.ranges ++ (addr, size) ∷ [];
-        count = w.1.count + 1;
-      },
+      record w.1 { made = w.1.made ++ next_id w.1 ∷ []; ranges = w.1.ranges ++ (addr, size) ∷ []; count = w.1.count + 1 },
     )
 memory_answer (Free p kind size align) w =
     answered (reached_by Frees p size) (freed w.0 p kind size align)

@@ -143,21 +143,15 @@ right_in int _ = None
 
 -- what an arithmetic operator gives on bits, beside a left operand
 abbrev pub arith_like : ArithOp → IntType → ℕ → ℕ → Val-F Val → ReadScript Val
-arith_like op int x y a = do
-  bits ← or_reason (arith_of op int x y)
-  like a bits
+arith_like op int x y a = or_reason (arith_of op int x y) >>= λ bits. like a bits
 
 -- the same of a shift
 abbrev pub shift_like : ShiftOp → IntType → ℕ → IntType → ℕ → ReadScript Val
-shift_like op int x by y = do
-  bits ← or_reason (shift_of op int x by y)
-  Done (val.Int bits)
+shift_like op int x by y = or_reason (shift_of op int x by y) >>= λ bits. Done (val.Int bits)
 
 -- a pointer moved in bounds, as a value
 abbrev pub moved_pointer : Pointer → ℤ → ReadScript Val
-moved_pointer p n = do
-  q ← moved p n
-  Done (val.Ptr q)
+moved_pointer p n = moved p n >>= λ q. Done (val.Ptr q)
 
 -- what an operator gives, by its operands' types; a pointer moves by the bytes that the number's bits say, modulo 2^64
 abbrev pub operated : Operator → Option IntType → Option IntType → Val-F Val → Val-F Val → ReadScript Val
@@ -182,14 +176,10 @@ operated (Comparing op) left right a b = do
   x ← or_ill_formed (bits_in a)
   y ← or_ill_formed (right_in int b)
   Done (val.Bool (compare_of op int x y))
-operated Moving left right a b = do
-  p ← or_ill_formed (pointer_in a)
-  n ← or_ill_formed (right_in I64 b)
-  moved_pointer p (value_of I64 n)
-operated Wrapping left right a b = do
-  p ← or_ill_formed (pointer_in a)
-  n ← or_ill_formed (right_in I64 b)
-  Done (val.Ptr (behind p n))
+operated Moving left right a b =
+    or_ill_formed (pointer_in a) >>= λ p. or_ill_formed (right_in I64 b) >>= λ n. moved_pointer p (value_of I64 n)
+operated Wrapping left right a b =
+    or_ill_formed (pointer_in a) >>= λ p. or_ill_formed (right_in I64 b) >>= λ n. Done (val.Ptr (behind p n))
 
 -- what an operator comes to with two operands and the types that are known of them
 abbrev pub binary_of : BinaryOp → Option Ty → Option Ty → Val → Val → ReadScript Val

@@ -16,15 +16,8 @@ pub record Tally : Type 0 where
 
 -- a step begins with nothing noted
 abbrev pub start_tally : ℕ → ℕ → Tally
-start_tally thread count = record {
-  thread = thread;
-  count = count;
-  accesses = [];
-  touched = [];
-  made = [];
-  ranges = [];
-  freed = [];
-}
+start_tally thread count =
+    record { thread = thread; count = count; accesses = []; touched = []; made = []; ranges = []; freed = [] }
 
 -- what evaluation sees of it: the accesses, and the allocations touched
 abbrev pub seen_of : Tally → Seen

@@ -103,15 +103,11 @@ or_undefined r (Some x) = Done x
 
 -- a value whose references point into allocations
 abbrev pub referred : Ty → Val → ReadScript Val
-referred t v = do
-  _ ← referring (targets_of t v)
-  Done v
+referred t v = referring (targets_of t v) >>= λ _. Done v
 
 -- the value that bytes mean, or this stop where they mean none
 abbrev pub meant : Stop → Ty → Bytes → ReadScript Val
-meant r t bytes = do
-  v ← or_undefined r (decoded t bytes)
-  referred t v
+meant r t bytes = or_undefined r (decoded t bytes) >>= λ v. referred t v
 
 -- the stop for bytes that were loaded and mean no value of the type
 abbrev pub meaningless : Ty → Pointer → Stop
@@ -135,17 +131,14 @@ case_search n (c ∷ cases) rest = if same_num c.0 n then c.1 else case_search n
 -- the number of an integer in memory, wherever it is aligned
 abbrev pub numbered : IntType → Pointer → ReadScript Num
 numbered int p =
-    Ask (Read false p (int_size int) 1) (λ bytes. do
-      bits ← or_undefined (plainly InvalidDiscriminant) (number_of bytes)
-      Done (number_of_bits int bits))
+    Ask (Read false p (int_size int) 1) (λ bytes. or_undefined (plainly InvalidDiscriminant) (number_of bytes)
+    >>= λ bits. Done (number_of_bits int bits))
 
 -- one level of a tree, each branch being a load of its integer
 abbrev pub search_step : Tree-F Search → Search
 search_step (Tree-F.Known n) p = Done n
 search_step Tree-F.Invalid p = Undefined (plainly InvalidDiscriminant)
-search_step (Tree-F.Branch at int cases rest) p = do
-  n ← numbered int (behind p at)
-  case_search n cases rest p
+search_step (Tree-F.Branch at int cases rest) p = numbered int (behind p at) >>= λ n. case_search n cases rest p
 
 -- the discriminant that a tree finds in memory
 unfoldable pub searched : Tree → Search

@@ -29,8 +29,8 @@ tally_of s = record {
 abbrev pub world_of : Scene → World
 world_of s = (s.memory, tally_of s)
 
--- What a call returned, seen by view, and left of the state is what the run comes to, unless memory ran out. A stop speaks
--- of the bytes that were refused last, where its reason speaks of bytes.
+-- What a call returned, seen by view, and left of the state is what the run comes to, unless memory ran out. A stop
+-- speaks of the bytes that were refused last, where its reason speaks of bytes.
 abbrev pub TellsBy : {X Y S : Type 0} → (X → Y) → Result X Fault → Outcome Y S → S → Option Reached → Type 0
 TellsBy view (Ok x) o s last = o ≡ Went (view x) s
 TellsBy view (Err (fault.Undefined r)) o s last = o ≡ Refused (stop_with last r)

@@ -5,8 +5,7 @@ use Rattle.mr_base.specs.declared.byte.AllocId.{AllocId}
 use Rattle.mr_base.specs.declared.thread.Event.{Event}
 
 -- The thread; its loads and stores, in order; the allocations that it made, freed, and touched, in a range check of
--- some length; what it did to a lock or to another thread; whether it ended its own; and the threads that it woke,
--- rising.
+-- some length; what it did to a lock or to another thread; whether it ended its own; the threads that it woke, rising.
 pub record Footprint : Type 0 where
   pub thread : ℕ
   pub accesses : List Access

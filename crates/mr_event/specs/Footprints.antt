@@ -52,15 +52,9 @@ joins_of _ _ = false
 -- what the other spawns or ends; g touches or frees what f made, or frees what f touched; or some accesses conflict.
 unfoldable pub depends : Footprint → Footprint → Bool
 depends f g =
-    same_lock f.event g.event
-    || both_create f.event g.event
-    || both_spawn f.event g.event
-    || joins_of f g.event
-    || joins_of g f.event
-    || share_id f.allocated g.touched
-    || share_id f.allocated g.freed
-    || share_id f.touched g.freed
-    || some_conflict f.accesses g.accesses
+    same_lock f.event g.event || both_create f.event g.event || both_spawn f.event g.event || joins_of f g.event
+    || joins_of g f.event || share_id f.allocated g.touched || share_id f.allocated g.freed
+    || share_id f.touched g.freed || some_conflict f.accesses g.accesses
 
 -- whether f woke or created the thread; a step that spawns a thread creates it, whatever its list of woken threads
 unfoldable pub wakes : Footprint → ℕ → Bool

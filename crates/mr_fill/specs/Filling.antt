@@ -1,5 +1,5 @@
--- The schedule that an order of threads becomes over the machine of a program: turn by turn the thread of the order, and
--- for what its step asks for the addresses that `mr_auto` finds.
+-- The schedule that an order of threads becomes over the machine of a program: turn by turn the thread of the order,
+-- and for what its step asks for the addresses that `mr_auto` finds.
 use Rattle.std.specs.Prelude.{ℕ, Bool, true, false, ◌&&◌, not, if◌then◌else◌, List, [], ◌∷◌, Option, None, Some, is_some}
 use Rattle.std.specs.Prelude.{Result, Ok, Err, slice_get}
 use Rattle.std.specs.List.{list_any}
@@ -133,7 +133,7 @@ filled_from p order (Some r) =
     let f = filling (look_of p r.picks) (start_config p r.picks) r.chooser order in
     record { schedule = record { start = r.picks; entries = f.entries }; halt = f.halt }
 
--- THE SCHEDULE THAT AN ORDER BECOMES: the start line is that of the schedule that is drawn from 0; then each turn has an
--- entry, up to the first turn at which the order can't go on, if there is one
+-- THE SCHEDULE THAT AN ORDER BECOMES: the start line is that of the schedule that is drawn from 0; then each turn has
+-- an entry, up to the first turn at which the order can't go on, if there is one
 unfoldable pub filled : Program → List Turn → Filled
 filled p order = filled_from p order (start_picked p 0)

@@ -126,8 +126,8 @@ abbrev pub order_from : List Turn → List (ℕ × List ℕ) → Result (List Tu
 order_from front [] = Ok front
 order_from front (w ∷ ws) = on_turns (λ turns. order_from turns ws) (word_then front w.0 w.1)
 
--- THE ORDER OF A TEXT: the turns that its words spell, in order; or the line of the first word that spells none, or that
--- spells a turn too many
+-- THE ORDER OF A TEXT: the turns that its words spell, in order; or the line of the first word that spells none, or
+-- that spells a turn too many
 unfoldable pub order_of : List ℕ → Result (List Turn) Fault
 order_of text =
     if nat_lt max_bytes (length text) then Err (record { line = 1; code = TOO_LONG })

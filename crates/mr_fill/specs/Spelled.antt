@@ -3,7 +3,8 @@ use Rattle.std.specs.Prelude.{◌≡◌, ℕ, List, ◌∷◌, ◌++◌, None, S
 use Rattle.mr_fill.specs.Orders.{count_of, thread_of, turn_on}
 use Rattle.mr_fill.specs.declared.order.Turns.{Turns}
 
--- `T` is one turn of thread T; `T*N` so many, once at least; and in `T>W` thread W gets the lock that the step gives up.
+-- `T` is one turn of thread T; `T*N` so many, once at least; and in `T>W` thread W gets the lock that the
+-- step gives up.
 pub data Spells (line : ℕ) : List ℕ → Turns → Type 0 where
   one :
       (t : List ℕ) (thread : ℕ) → thread_of t ≡ Some thread

@@ -97,18 +97,14 @@ storage_asks types = map (λ t. Address (size_of t) (align_of t)) types
 -- new storage for each, at the picked addresses
 abbrev pub allocate_each : List Ty → List ℕ → MemoryScript (List Pointer)
 allocate_each [] [] = Done []
-allocate_each (t ∷ ts) (a ∷ rest) = do
-  p ← Asks (Allocate OnStack (size_of t) (align_of t) a) Done
-  ps ← allocate_each ts rest
-  Done (p ∷ ps)
+allocate_each (t ∷ ts) (a ∷ rest) =
+    Asks (Allocate OnStack (size_of t) (align_of t) a) Done >>= λ p. allocate_each ts rest >>= λ ps. Done (p ∷ ps)
 allocate_each _ _ = IllFormed
 
 -- each value is stored at its pointer, in order
 abbrev pub store_each : List Ty → List Pointer → List Val → Change
 store_each [] [] [] = Done tt
-store_each (t ∷ ts) (p ∷ ps) (v ∷ vs) = do
-  _ ← store t p v
-  store_each ts ps vs
+store_each (t ∷ ts) (p ∷ ps) (v ∷ vs) = store t p v >>= λ _. store_each ts ps vs
 store_each _ _ _ = IllFormed
 
 -- locals of which some have storage
@@ -197,9 +193,7 @@ call look s site callee args place =
 -- the storage of each local goes, by rising number
 abbrev pub free_each : List Local → List (Option Pointer) → Change
 free_each [] [] = Done tt
-free_each (l ∷ ls) (storage ∷ rest) = do
-  _ ← free_storage l.ty storage
-  free_each ls rest
+free_each (l ∷ ls) (storage ∷ rest) = free_storage l.ty storage >>= λ _. free_each ls rest
 free_each _ _ = IllFormed
 
 -- where a caller's call goes on, behind a return and behind an unwinding
@@ -228,10 +222,8 @@ targets_of look f = targets_in_function f (slice_get look.program.functions f.fu
 
 -- the value of the return local
 abbrev pub return_value : Function → Frame → ReadScript Val
-return_value fn f = do
-  p ← stored (slice_get f.locals fn.ret.0)
-  t ← or_ill_formed (local_type fn fn.ret)
-  loading t p
+return_value fn f =
+    stored (slice_get f.locals fn.ret.0) >>= λ p. or_ill_formed (local_type fn fn.ret) >>= λ t. loading t p
 
 -- the caller goes on at a block with the result in the place that it kept
 abbrev pub give_result : Stack → Frame → List Frame → Option Ty → Val → Option BlockName → Option Pointer

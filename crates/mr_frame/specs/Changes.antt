@@ -56,21 +56,15 @@ assign s place value = do
 
 -- `mention P`: the place
 abbrev pub mention : Surround → Place → Change
-mention s place = do
-  _ ← reading_part (place_script s place)
-  Done tt
+mention s place = reading_part (place_script s place) >>= λ _. Done tt
 
 -- `validate P`: the place, the load, and the store of the same value
 abbrev pub validate_at : Pointer → Ty → Change
-validate_at p t = do
-  v ← reading_part (loading t p)
-  store t p v
+validate_at p t = reading_part (loading t p) >>= λ v. store t p v
 
 -- the value at a place is loaded and stored back
 abbrev pub validate : Surround → Place → Change
-validate s place = do
-  p ← reading_part (place_script s place)
-  with_type (type_of_place s.locals place) (validate_at p)
+validate s place = reading_part (place_script s place) >>= λ p. with_type (type_of_place s.locals place) (validate_at p)
 
 -- `deinit P`: the place, and its bytes become uninitialised
 abbrev pub deinit : Surround → Place → Change
@@ -86,9 +80,7 @@ tags_in (Some t) n = tags_layer (out-Ty t) n
 -- each tag in written order, at its offset
 abbrev pub write_tags : Pointer → List Tag → Change
 write_tags p [] = Done tt
-write_tags p (tag ∷ tags) = do
-  _ ← write (behind p tag.at) (tag_bytes tag) 1
-  write_tags p tags
+write_tags p (tag ∷ tags) = write (behind p tag.at) (tag_bytes tag) 1 >>= λ _. write_tags p tags
 
 -- the tags of the variant are written, where the type has it
 abbrev pub write_found : Pointer → Option (List Tag) → Change
@@ -97,9 +89,8 @@ write_found p (Some tags) = write_tags p tags
 
 -- `disc P = N`: the place, and the tags of the variant
 abbrev pub set_discriminant : Surround → Place → Num → Change
-set_discriminant s place number = do
-  p ← reading_part (place_script s place)
-  write_found p (tags_in (type_of_place s.locals place) number)
+set_discriminant s place number =
+    reading_part (place_script s place) >>= λ p. write_found p (tags_in (type_of_place s.locals place) number)
 
 -- a statement other than `live` and `dead`, which do more than change memory
 abbrev pub IsChange : Stmt → Type 0

@@ -56,8 +56,7 @@ none_broken (broken ∷ rules) = false
 -- the rules that a function breaks beside those of its blocks: of its locals' types, its arguments and its first block
 abbrev pub broken_in_head : Function → Rules
 broken_in_head fn =
-    flat_map (λ (l : Local). of_type l.ty) fn.locals
-    ++ rule form.Arguments (are_arguments fn.ret fn.args)
+    flat_map (λ (l : Local). of_type l.ty) fn.locals ++ rule form.Arguments (are_arguments fn.ret fn.args)
     ++ rule form.FirstBlock (begins_regular fn.blocks)
 
 -- those of what stands at a position of a block: a statement, or behind the last one the terminator
@@ -70,8 +69,7 @@ abbrev pub site_in : Program → Frame → List Frame → Function → Option Bl
 site_in p f below fn None = None
 site_in p f below fn (Some b) =
     if none_broken (broken_in_head fn ++ broken_at p fn b (slice_get b.stmts f.at))
-    then Some (record { function = fn; block = b; frame = f; below = below })
-    else None
+    then Some (record { function = fn; block = b; frame = f; below = below }) else None
 
 -- where a frame of the function stands, which is to keep its storage and to be at a block of it
 abbrev pub site_of_frame : Program → Frame → List Frame → Option Function → Option Site
@@ -82,8 +80,7 @@ site_of_frame p f below (Some fn) =
 -- where the frame on top stands
 abbrev pub site_of_frames : Look → List Frame → Option Site
 site_of_frames look [] = None
-site_of_frames look (f ∷ below) =
-    site_of_frame look.program f below (slice_get look.program.functions f.function)
+site_of_frames look (f ∷ below) = site_of_frame look.program f below (slice_get look.program.functions f.function)
 
 -- WHERE A THREAD STANDS, if there is such a function, block and storage, and no rule is broken there
 unfoldable pub site_of : Look → Stack → Option Site
@@ -104,8 +101,7 @@ abbrev pub due_at : Site → Option Stmt → Option Due
 due_at s (Some stmt) = Some (AtStatement stmt)
 due_at s None =
     if (s.frame.at == length s.block.stmts) && is_allowed s.function s.block.kind s.block.term
-    then Some (due_term s.block.term)
-    else None
+    then Some (due_term s.block.term) else None
 
 -- WHAT IS DUE where a thread stands, if anything is
 unfoldable pub due_of : Site → Option Due

@@ -76,8 +76,7 @@ statement look s site changes =
 abbrev pub terminator : Look → ℕ → Stack → Site → Term → FramePlan
 terminator look thread s site (term.Goto b) = plain (Done (goes_to s site b.0))
 terminator look thread s site (term.Switch value cases other) =
-    plain
-    (reading_part (switched (scene_in look site.function site.frame) value cases other)
+    plain (reading_part (switched (scene_in look site.function site.frame) value cases other)
     >>= λ b. Done (goes_to s site b))
 terminator look thread s site term.Unreachable = plain (Undefined (plainly Unreachable))
 terminator look thread s site (term.Call callee args place next unwind) = call look s site callee args place

@@ -40,8 +40,8 @@ definitions_in words body = record {
 
 -- the program of these parts, whose names are those that are defined
 abbrev pub program_of : Definitions → ProgramBody → Program
-program_of d body =
-    record { edition = body.edition; globals = body.globals; functions = body.functions; names = names_of d; start = body.start }
+program_of d b =
+    record { edition = b.edition; globals = b.globals; functions = b.functions; names = names_of d; start = b.start }
 
 -- The words are in the grammar, whatever their names stand for; and where names stand for what the text itself
 -- defines, they write the program. Each name is defined once in its space then, and each that is used is defined.

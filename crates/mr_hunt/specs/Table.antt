@@ -36,8 +36,8 @@ abbrev pub once : List End → List End
 once [] = []
 once (e ∷ es) = e ∷ filter (is_other e) (once es)
 
--- THE TABLE of some numbers, whose runs show these ends: a row for each kind that one of them has, in the order in which
--- the kinds come first
+-- THE TABLE of some numbers, whose runs show these ends: a row for each kind that one of them has, in the order in
+-- which the kinds come first
 abbrev pub table_of : (ℕ → List End) → List ℕ → List Row
 table_of ends ns = map (row_of ends ns) (once (flat_map ends ns))
 

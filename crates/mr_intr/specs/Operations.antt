@@ -99,17 +99,13 @@ is_power_of_two n = count_ones n == 1
 abbrev pub allocating : ℕ → ℕ → Operation
 allocating size align =
     if nat_lt (2 ^ 63 - 1) size then Undefined (plainly SizeTooLarge)
-    else (if is_power_of_two align
-    then Done
+    else (if is_power_of_two align then Done
     (with_pick (Address size align) (λ a. Asks (OfMemory (Allocate Heap size align a)) (λ p. Done (Some (val.Ptr p)))))
     else Undefined (plainly BadAlign))
 
 -- an allocation on the heap of a size and an alignment, at an address that is picked
 abbrev pub allocate : Val → Val → Operation
-allocate size align = do
-  s ← number size
-  a ← number align
-  allocating s a
+allocate size align = number size >>= λ s. number align >>= λ a. allocating s a
 
 -- `deallocate`: the end of a heap allocation
 abbrev pub deallocate : Val → Val → Val → Operation
@@ -145,10 +141,7 @@ releasing l false = record { creates = CreatesNothing; asks = []; go = λ picks.
 
 -- `release`: 132, 133; then a waiter, where one waits
 abbrev pub release : Val → Operation
-release lock = do
-  l ← number lock
-  waits ← Asks (Waiting l) Done
-  Done (releasing l waits)
+release lock = number lock >>= λ l. Asks (Waiting l) Done >>= λ waits. Done (releasing l waits)
 
 -- ---- atomics
 
@@ -165,9 +158,7 @@ loaded stop (Some n) = Done (Some (val.Int n))
 -- `atomic_load`, of an integer type: 107 where the bytes are no number
 abbrev pub atomic_load : Val → Ty → Operation
 atomic_load at t =
-    instant
-    (pointer at
-    >>= λ p. memory_part
+    instant (pointer at >>= λ p. memory_part
     (reading_part (Asks (Read true p (size_of t) (align_of t)) (λ bytes. loaded (meaningless t p) (number_of bytes)))))
 
 -- a read and a change in one; what was read is given
@@ -180,10 +171,7 @@ exchanged old new n = if n == old then Some new else None
 
 -- `compare_exchange`
 abbrev pub compare_exchange : Val → Ty → Val → Val → Operation
-compare_exchange at t old new = instant (do
-  a ← number old
-  b ← number new
-  modify at t (exchanged a b))
+compare_exchange at t old new = instant (number old >>= λ a. number new >>= λ b. modify at t (exchanged a b))
 
 -- the bits behind a fetch, which wraps
 abbrev pub fetched : Intrinsic → IntType → ℕ → ℕ → Option ℕ
@@ -196,10 +184,8 @@ fetched _ int k n = None
 
 -- `fetch_add` to `fetch_xor`
 abbrev pub fetch : Intrinsic → Val → Ty → Val → Operation
-fetch op at t v = instant (do
-  int ← found (integer_in (out-Ty t))
-  k ← number v
-  modify at t (fetched op int k))
+fetch op at t v =
+    instant (found (integer_in (out-Ty t)) >>= λ int. number v >>= λ k. modify at t (fetched op int k))
 
 -- ---- by name
 

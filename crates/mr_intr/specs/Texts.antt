@@ -33,10 +33,7 @@ text_of t v = text_layer (out-Ty t) (out-Val v)
 -- the text of each value, from left to right
 abbrev pub texts_of : List Ty → List Val → ReadScript (List (List ℕ))
 texts_of [] [] = Done []
-texts_of (t ∷ ts) (v ∷ vs) = do
-  text ← or_ill_formed (text_of t v)
-  texts ← texts_of ts vs
-  Done (text ∷ texts)
+texts_of (t ∷ ts) (v ∷ vs) = or_ill_formed (text_of t v) >>= λ text. texts_of ts vs >>= λ texts. Done (text ∷ texts)
 texts_of _ _ = IllFormed
 
 -- texts behind a first one, each led by a space

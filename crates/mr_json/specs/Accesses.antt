@@ -22,7 +22,8 @@ pointer_data s addr (Some id) = object
     (member (codes "address") (number (unsigned addr))
     (member (codes "to") (reached_data s.program addr (own_row id (found_at addr s.rows))) no_members))
 
--- WHAT IS LOADED OR STORED: a number, a pointer, `no value` where a byte is uninitialised, and null where it is not told
+-- WHAT IS LOADED OR STORED: a number, a pointer, `no value` where a byte is uninitialised, and null where it
+-- is not told
 abbrev pub value_data : Seen → Held → Data
 value_data s (held.Number n) = number_data n
 value_data s (held.Pointer p) = pointer_data s p.addr p.prov

@@ -42,8 +42,8 @@ block_data offset step = object
     (member (codes "offset") (number (unsigned offset))
     (member (codes "step") (number_data (step + 1)) no_members))
 
--- AN ADDRESS IN AN ALLOCATION, so many bytes behind its first one: in a function, a global, a local of a function that a
--- thread runs, or the block that a step, counted from 1, allocated
+-- AN ADDRESS IN AN ALLOCATION, so many bytes behind its first one: in a function, a global, a local of a function that
+-- a thread runs, or the block that a step, counted from 1, allocated
 abbrev pub named_data : Program → ℕ → Name → Data
 named_data p offset (name.Function i) = object
     (member (codes "function") (string (text_at (function_texts p) i))

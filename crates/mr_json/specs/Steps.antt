@@ -83,8 +83,8 @@ did_data s v told (Some foot) = object
     (member (codes "starts") (started_data s.program told.started)
     (member (codes "wakes") (woken_data foot.woken) no_members)))))
 
--- A STEP: what it did, its number, counted from 1, where its thread stood before it, its prints, and its thread. What its
--- accesses hold stands at its number
+-- A STEP: what it did, its number, counted from 1, where its thread stood before it, its prints, and its thread. What
+-- its accesses hold stands at its number
 abbrev pub step_data : Seen → List StepValues → ToldStep → Data
 step_data s values told = object
     (member (codes "did") (did_data s (slice_get values told.number) told (slice_get s.feet told.number))

@@ -46,16 +46,12 @@ is_overlapping (f ∷ fields) = meets_any f.0 (size_of f.1) fields || is_overlap
 -- the first broken rule of a tuple, whose fields break none
 unfoldable pub tuple_rules : ℕ → ℕ → List (ℕ × Ty) → Option Rule
 tuple_rules size align fields =
-    rule TypeSize (is_large size)
-    (rule TypeAlign (not (is_align align))
-    (rule FieldOutside (is_past size fields)
-    (rule FieldOverlap (is_overlapping fields)
-    (rule SizeMultiple (not (size % align == 0)) None))))
+    rule TypeSize (is_large size) (rule TypeAlign (not (is_align align)) (rule FieldOutside (is_past size fields)
+    (rule FieldOverlap (is_overlapping fields) (rule SizeMultiple (not (size % align == 0)) None))))
 
 -- the first broken rule of a reference
 unfoldable pub ref_rules : ℕ → ℕ → Option Rule
-ref_rules size align =
-    rule TypeSize (not (nat_lt size (2 ^ 63))) (rule TypeAlign (not (is_align align)) None)
+ref_rules size align = rule TypeSize (not (nat_lt size (2 ^ 63))) (rule TypeAlign (not (is_align align)) None)
 
 -- the first broken rule of an array, whose element breaks none
 unfoldable pub array_rules : ℕ → Ty → Option Rule
@@ -99,11 +95,9 @@ are_covered (f ∷ fields) chunks = is_covered f.0 f.1 chunks (size_of f.1) && a
 -- the first broken rule of a union, whose fields break none
 unfoldable pub union_rules : ℕ → ℕ → List (ℕ × Ty) → List (ℕ × ℕ) → Option Rule
 union_rules size align fields chunks =
-    rule TypeSize (is_large size)
-    (rule TypeAlign (not (is_align align))
+    rule TypeSize (is_large size) (rule TypeAlign (not (is_align align))
     (rule FieldOutside (is_past size fields || is_chunk_past size chunks)
-    (rule SizeMultiple (not (size % align == 0))
-    (rule UnionChunk
+    (rule SizeMultiple (not (size % align == 0)) (rule UnionChunk
     (not (is_rising chunks && (not (is_chunk_overlapping chunks) && are_covered fields chunks))) None))))
 
 -- the first broken rule of these fields

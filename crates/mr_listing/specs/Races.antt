@@ -69,7 +69,8 @@ abbrev pub by_count : ℕ → List Group → List Group
 by_count zero gs = filter (has_count 0) gs
 by_count (suc count) gs = filter (has_count (suc count)) gs ++ by_count count gs
 
--- THE ORDER in which they are written: those with most races first, and of those with as many the one with the first race
+-- THE ORDER in which they are written: those with most races first, and of those with as many the one with
+-- the first race
 abbrev pub ranked : Seen → List Group
 ranked s = by_count (length s.races) (groups s)
 
@@ -90,7 +91,7 @@ group_line s g =
     stand_text s (before_of (slice_get s.stands g.first.first)) ++ codes "  /  "
     ++ stand_text s (before_of (slice_get s.stands g.first.second)) ++ codes ": " ++ times_text g
 
--- THE RACES BY PAIRS OF PLACES, as they are written where it is told where all threads stood: a line for each pair of places, those with
--- most races first; and how many races there are
+-- THE RACES BY PAIRS OF PLACES, as they are written where it is told where all threads stood: a line for each pair of
+-- places, those with most races first; and how many races there are
 abbrev pub races_text : Seen → List ℕ
 races_text s = flat_map (group_line s) (ranked s) ++ count_line s.races

@@ -61,8 +61,8 @@ abbrev pub entry_of : ℕ → Option ℕ → Option Stand
 entry_of thread None = None
 entry_of thread (Some f) = Some (record { thread = thread; function = f; block = 0; at = 0 })
 
--- the next step of a thread that stands here, as it is told behind it: the thread enters that function, or starts it in a
--- new thread of this number
+-- the next step of a thread that stands here, as it is told behind it: the thread enters that function, or starts it in
+-- a new thread of this number
 abbrev pub coming : Program → ℕ → Stand → ToldStep
 coming p new s = record {
   number = 0;

@@ -22,8 +22,8 @@ abbrev pub breaks_with : Look → Config Own → Entry → ℕ → ℕ → Bool
 breaks_with look c e code count =
     option_map_or (λ (f : Fault). f.code == code) (program_fault look c (with_picks e count)) false
 
--- THE POSITION OF THE PICK by which an entry breaks a rule, where the rule is one of a pick: the last of the fewest picks
--- with which it breaks that rule already
+-- THE POSITION OF THE PICK by which an entry breaks a rule, where the rule is one of a pick: the last of the fewest
+-- picks with which it breaks that rule already
 abbrev pub culprit_of : Look → Config Own → Entry → ℕ → Option ℕ
 culprit_of look c e code =
     if is_of_pick code

@@ -16,7 +16,8 @@ lies_between run i j k = happens_before run i k && happens_before run k j
 abbrev pub inside : ℕ → ℕ → List ℕ
 inside i j = range_with_len (i + 1) (j - (i + 1))
 
--- whether an arrow is drawn from step i to step j: they are of two threads, i happens before j, and no step lies between
+-- whether an arrow is drawn from step i to step j: they are of two threads, i happens before j, and no step
+-- lies between
 abbrev pub is_arrow : List Footprint → ℕ → ℕ → Bool
 is_arrow run i j =
     not (thread_at run i == thread_at run j)

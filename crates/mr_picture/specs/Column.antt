@@ -36,7 +36,8 @@ abbrev pub is_of_race : Pair → ℕ → Bool
 is_of_race race step = race.first == step || race.second == step
 
 abbrev pub kept_title : ℕ → ℕ → List ℕ
-kept_title step row = step_word step ++ codes " is " ++ step_word row ++ codes " of the witness, of those that are drawn"
+kept_title step row =
+    step_word step ++ codes " is " ++ step_word row ++ codes " of the witness, of those that are drawn"
 
 abbrev pub kept_sign : Bool → Sign
 kept_sign true = sign.Racing

@@ -35,8 +35,8 @@ foot_place s step = place_of s (thread_at s.sketch.feet step) step
 
 -- ---- arrows
 
--- an arrow goes along the row of its first step, in which no other step stands, down beside the lane of its second one, and
--- aslant to that
+-- an arrow goes along the row of its first step, in which no other step stands, down beside the lane of its second one,
+-- and aslant to that
 abbrev pub arrow_at : ℕ → ℕ → Point → Point → Shape
 arrow_at far above a b =
     let x = beside far b.x a.x in
@@ -84,8 +84,8 @@ arrow_mark s arrow =
 
 -- ---- races
 
--- a race goes aslant from its first step, down beside the lane of that, and along the row of its second step; it is drawn from
--- there
+-- a race goes aslant from its first step, down beside the lane of that, and along the row of its second step; it is
+-- drawn from there
 abbrev pub race_between : Point → Point → Shape
 race_between a b =
     let x = beside 16 a.x b.x in

@@ -12,15 +12,16 @@ use Rattle.mr_picture.specs.declared.scene.Sketch.{Sketch as KeptSketch}
 
 -- ---- which steps
 
--- the steps from one number up to another, as far as the run has them, and no more than 500; none where the other is less
+-- the steps from one number up to another, as far as the run has them, and no more than 500; none where the
+-- other is less
 abbrev pub clipped : ℕ → ℕ → ℕ → Span
 clipped count from to = record {
   from = min from count;
   to = max (min from count) (min (min to count) (min from count + 500));
 }
 
--- where the part of a long run begins that has this first race: with the run, or 400 steps before the race's second step,
--- where that is one of the first 500
+-- where the part of a long run begins that has this first race: with the run, or 400 steps before the race's second
+-- step, where that is one of the first 500
 abbrev pub begin_at : Option Pair → ℕ
 begin_at None = 0
 begin_at (Some race) = if nat_lt race.second 500 then 0 else race.second - 400

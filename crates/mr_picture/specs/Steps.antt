@@ -25,8 +25,8 @@ use Rattle.mr_picture.specs.Texts.{cut, step_word}
 abbrev pub did_text : Scene → Drawn → List ℕ
 did_text s step = partners s.near step.number ++ step.did
 
--- `step N, thread T  WHERE`, where a statement is told as `LINE:COLUMN  FUNCTION BLOCK  STATEMENT`; and below it all that
--- it did: what is shown with each mark of the step
+-- `step N, thread T  WHERE`, where a statement is told as `LINE:COLUMN  FUNCTION BLOCK  STATEMENT`; and below it all
+-- that it did: what is shown with each mark of the step
 abbrev pub whole_text : Scene → Drawn → List ℕ
 whole_text s step =
     step_word step.number ++ codes ", " ++ thread_word step.thread ++ codes "  " ++ step.stand ++ did_text s step
@@ -86,7 +86,8 @@ at_step s step = place_of s step.thread step.number
 -- its own mark, in its lane
 abbrev pub step_mark : Scene → Drawn → Mark
 step_mark s step =
-    mark_of (part_sign (part_of s step.number)) (part_shape (part_of s step.number) (at_step s step)) [] (whole_text s step)
+    mark_of (part_sign (part_of s step.number)) (part_shape (part_of s step.number) (at_step s step)) []
+    (whole_text s step)
 
 -- its number
 abbrev pub number_mark : Scene → Drawn → Mark

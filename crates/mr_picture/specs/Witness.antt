@@ -11,8 +11,8 @@ use Rattle.mr_picture.specs.Span.{steps_in}
 abbrev pub is_other : List Footprint → Pair → ℕ → Bool
 is_other run race k = not (happens_before run race.first k) && not (k == race.first)
 
--- THE WITNESS from a place on: the steps before the second one of the race that its first one doesn't happen before, and
--- then these two
+-- THE WITNESS from a place on: the steps before the second one of the race that its first one doesn't happen before,
+-- and then these two
 abbrev pub witness_steps : List Footprint → Pair → ℕ → List ℕ
 witness_steps run race from =
     filter (is_other run race) (range_with_len from (race.second - from)) ++ race.first ∷ race.second ∷ []

@@ -43,8 +43,7 @@ pub record State (L : Type 0) : Type 0 where
   pub shared : Shared
   pub threads : List (Thread L)
 
--- what a bare step comes to: it completes, with notes and a state; or it stops with a verdict, and may speak of bytes;
--- or it has no rule
+-- what a bare step comes to: notes and a state; or it stops with a verdict, and may speak of bytes; or it has no rule
 pub data Bare (L : Type 0) : Type 0 where
   Completed : Notes → State L → Bare L
   Stops : Verdict → Option Reached → Bare L

@@ -21,14 +21,8 @@ pub record Notes : Type 0 where
 
 -- a step of a thread, which has made so many allocations, begins with nothing noted
 abbrev pub start_notes : ℕ → ℕ → Notes
-start_notes thread count = record {
-  tally = start_tally thread count;
-  stopped = false;
-  events = [];
-  ended = false;
-  woken = [];
-  printed = [];
-}
+start_notes thread count =
+    record { tally = start_tally thread count; stopped = false; events = []; ended = false; woken = []; printed = [] }
 
 -- a step does one thing to locks and threads, which a release notes twice; or none
 abbrev pub event_of : List Event → Event
@@ -40,8 +34,7 @@ event_of (e ∷ es) = e
 -- a non-atomic store of all bytes of an allocation, where it has one
 abbrev pub whole_store : Option (ℕ × ℕ) → List Access
 whole_store None = []
-whole_store (Some e) =
-    if e.1 == 0 then [] else record { store = true; atomic = false; addr = e.0; len = e.1 } ∷ []
+whole_store (Some e) = if e.1 == 0 then [] else record { store = true; atomic = false; addr = e.0; len = e.1 } ∷ []
 
 -- the same of each of these, in order
 abbrev pub whole_stores : Memory → List AllocId → List Access

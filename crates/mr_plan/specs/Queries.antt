@@ -117,8 +117,6 @@ answer (Waiting l) w =
 answer (Unlock l to) w = giving l to (released w.1.tally.thread l to (tables_of w.0)) w.0 w.1
 answer Start w =
     let c = spawned (tables_of w.0) in Went c.0 (with_tables w.0 c.1, woke (Some c.0) (note (Spawn c.0) w.1))
-answer (Await u) w =
-    if w.1.stopped then Broken else going (Join u) (joined w.1.tally.thread u (tables_of w.0)) w.0 w.1
-answer Finish w =
-    if w.1.stopped then Broken else ending (ended w.1.tally.thread (tables_of w.0)) w.0 w.1
+answer (Await u) w = if w.1.stopped then Broken else going (Join u) (joined w.1.tally.thread u (tables_of w.0)) w.0 w.1
+answer Finish w = if w.1.stopped then Broken else ending (ended w.1.tally.thread (tables_of w.0)) w.0 w.1
 answer (Print text) w = Went tt (w.0, record w.1 { printed = w.1.printed ++ text ∷ [] })

@@ -10,9 +10,10 @@ abbrev pub with_numbers : SeenPiece → List ℕ → SeenPiece
 with_numbers (UninitPiece len) numbers = UninitPiece len
 with_numbers (InitPiece own provenance) numbers = InitPiece (own ++ numbers) provenance
 
--- The piece under `begin` ends at the position `from`, and has bytes with the provenance. Uninitialised bytes begin there,
--- `rest` more than `count`.
-pub record CanGrow (es : List (ℕ × SeenPiece)) (from count : ℕ) (provenance : Option AllocId) (begin rest : ℕ) : Type 0 where
+-- The piece under `begin` ends at the position `from`, and has bytes with the provenance. Uninitialised bytes begin
+-- there, `rest` more than `count`.
+pub record CanGrow (es : List (ℕ × SeenPiece)) (from count : ℕ) (provenance : Option AllocId)
+    (begin rest : ℕ) : Type 0 where
   pub piece : SeenPiece
   pub some : 0 < from
   pub holds : Holds es (from - 1) begin piece

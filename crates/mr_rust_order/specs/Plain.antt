@@ -20,8 +20,8 @@ depends_by_deeds f g =
     || share_id f.touched g.freed
 
 -- A RUN OF PLAIN ACCESSES: none is atomic; what depends on an earlier step of another thread by a lock, a thread or an
--- allocation comes behind it by Rust's order; and where a lock is handed over, or a thread is joined, the two steps have
--- no accesses that race.
+-- allocation comes behind it by Rust's order; and where a lock is handed over, or a thread is joined, the two steps
+-- have no accesses that race.
 pub record IsPlain (run : List Footprint) : Type 0 where
   pub accesses : (i : ℕ) → All (λ a. a.atomic ≡ false) (step_at run i).accesses
   pub deeds : (i j : ℕ) → i < j → thread_at run i ≢ thread_at run j

@@ -64,7 +64,8 @@ abbrev pub drawn_between : Option Span → Between
 drawn_between None = record { from = 0; to = 2 ^ 22 }
 drawn_between (Some span) = record { from = span.from; to = span.to }
 
--- the steps that are told for a part, for JSON all; races and an order ask for none, but for where the threads of all steps stood
+-- the steps that are told for a part, for JSON all; races and an order ask for none, but for where the
+-- threads of all steps stood
 abbrev pub told_for : Part → Option Between
 told_for (Steps from to) = Some (record { from = from; to = to })
 told_for Json = Some (record { from = 0; to = 2 ^ 22 })

@@ -24,11 +24,11 @@ use Rattle.mr_show.specs.declared.form.Topic.TheVariants.{Everything, OfCheck, O
 use Rattle.mr_show.specs.declared.form.Topic.TheVariants.{OfJson, OfPicture, OfRaces, OfRust, OfSteps, OfWhy}
 
 -- What is asked for: what is said of the run of the program in one file under the schedule in another, which is a part
--- of it, its steps from one number up to another, all of it as JSON, its races by pairs of places, also by two orders, or a picture of it, or how it can go on;
--- or what the order in another becomes, which is a schedule, or where it can't go on; which ends the runs of some
--- numbers have, or the first of these runs that has what is looked for, or the schedule of a number; the steps of a
--- trace; what refuses the program in a file, or a schedule of it in another, told by the names of the files; what is
--- said of a code; or help.
+-- of it, its steps from one number up to another, all of it as JSON, its races by pairs of places, also by two orders,
+-- or a picture of it, or how it can go on; or what the order in another becomes, which is a schedule, or where it can't
+-- go on; which ends the runs of some numbers have, or the first of these runs that has what is looked for, or the
+-- schedule of a number; the steps of a trace; what refuses the program in a file, or a schedule of it in another, told
+-- by the names of the files; what is said of a code; or help.
 pub data Form : Type 0 where
   Shown : (saying : Saying) (program schedule : List ℕ) → Form
   Hunted : (range : Range) (seek : Seek) (name program : List ℕ) → Form
@@ -79,8 +79,8 @@ two_of word second =
     else (if bytes_eq word (codes "check") then Some (CheckedProgram second second)
     else (if bytes_eq word (codes "rust") then Some (Bare alone.TwoOrders second) else None))
 
--- all steps, all as JSON, the races, those by two orders, the picture of those about the first race, or how the run can go on; what an order becomes, or
--- where it can't go on
+-- all steps, all as JSON, the races, those by two orders, the picture of those about the first race, or how the run can
+-- go on; what an order becomes, or where it can't go on
 abbrev pub whole_of : List ℕ → List ℕ → List ℕ → Option Form
 whole_of word program schedule =
     if bytes_eq word (codes "steps") then Some (Shown (OfRun (Steps 0 (2 ^ 22))) program schedule)
@@ -207,8 +207,8 @@ long_form word program third fourth fifth _ = None
 -- `fill P O` and `halt P O`;
 -- `hunt P FROM TO M`, where FROM is at most TO, both are below 2^64, and M is at most 2^20, and an aim behind it;
 -- `draw P N M`, with such numbers; `check P` and `check P S`; `why CODE`, where CODE is below 2^16 or the name of a
--- code; `--help`, and that behind `steps`, `json`, `races`, `rust`, `picture`, `order`, `next`, `check`, `fill`, `halt`,
--- `hunt`, `draw` or `why`; and no other form
+-- code; `--help`, and that behind `steps`, `json`, `races`, `rust`, `picture`, `order`, `next`, `check`, `fill`,
+-- `halt`, `hunt`, `draw` or `why`; and no other form
 abbrev pub form_of : List (List ℕ) → Option Form
 form_of (word ∷ []) = if bytes_eq word (codes "--help") then Some (Help Everything) else None
 form_of (word ∷ option ∷ []) =

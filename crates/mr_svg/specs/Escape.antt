@@ -2,8 +2,8 @@
 use Rattle.std.specs.Prelude.{◌≡◌, ◌⊎◌, ℕ, ◌≤◌, ◌==◌, ◌&&◌, nat_le, if◌then◌else◌, List, [], ◌∷◌, ◌++◌, flat_map, codes}
 use Rattle.std.specs.Prelude.{◌≢◌}
 
--- what is shown for a byte: itself where it is a printable character of ASCII or the end of a line, a space for a tab, and
--- a question mark for any other
+-- what is shown for a byte: itself where it is a printable character of ASCII or the end of a line, a space for a tab,
+-- and a question mark for any other
 abbrev pub shown_byte : ℕ → ℕ
 shown_byte b =
     if b == 10 then 10 else (if b == 9 then 32 else (if nat_le 32 b && nat_le b 126 then b else 63))
@@ -23,7 +23,8 @@ escaped text = flat_map escaped_byte text
 
 -- ---- reading it again
 
--- a character that stands for itself: a printable one of ASCII but the four of which markup is made, or the end of a line
+-- a character that stands for itself: a printable one of ASCII but the four of which markup is made, or the
+-- end of a line
 pub record IsPlain (b : ℕ) : Type 0 where
   pub printable : (b ≡ 10) ⊎ ((32 ≤ b) × (b ≤ 126))
   pub less : b ≢ 60

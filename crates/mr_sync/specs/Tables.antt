@@ -100,8 +100,7 @@ acquired t l s = trying t l (slice_get s.holders l) s
 abbrev pub handed : ℕ → Option ℕ → Tables → Tables
 handed l None s = record s { holders = slice_set s.holders l None }
 handed l (Some u) s =
-    if waits l u s
-    then record s { statuses = slice_set s.statuses u Enabled; holders = slice_set s.holders l (Some u) }
+    if waits l u s then record s { statuses = slice_set s.statuses u Enabled; holders = slice_set s.holders l (Some u) }
     else record s { holders = slice_set s.holders l None }
 
 -- the thread holds the lock, or the reason why it can't give it back

@@ -143,8 +143,7 @@ broken_in_parts at (term.Call callee args place next unwind) =
     broken_in_value at callee ++ broken_in_values at args ++ broken_in_place at place
     ++ rule form.Callee (where_typed (type_of_value at.locals callee) is_fn_ptr)
 broken_in_parts at (term.Do intrinsic args place next) =
-    broken_in_values at args ++ broken_in_result at place
-    ++ rule form.Intrinsic
+    broken_in_values at args ++ broken_in_result at place ++ rule form.Intrinsic
     (where_all_typed (map (type_of_value at.locals) args)
     (λ types. where_result_typed at.locals place (fits_intrinsic intrinsic types)))
 broken_in_parts at _ = []

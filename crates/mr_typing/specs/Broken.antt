@@ -92,8 +92,7 @@ broken_place_step at (Place-F.Deref pointer ty) =
 broken_place_step at (Place-F.Field place field) =
     place.1 ++ rule form.Place (where_typed (type_of_place at.locals place.0) (λ t. is_some (field_type t field)))
 broken_place_step at (Place-F.Index place index) =
-    place.1 ++ index.1
-    ++ rule form.Place
+    place.1 ++ index.1 ++ rule form.Place
     (where_both_typed (type_of_place at.locals place.0) (type_of_value at.locals index.0)
     (λ t i. is_some (element_type t) && is_int U64 i))
 broken_place_step at (Place-F.Place::Variant place number) =
@@ -123,8 +122,7 @@ broken_value_step at (Value-F.Transmute ty value) =
 broken_value_step at (Value-F.Unary operator value) =
     value.1 ++ rule form.Operand (where_typed (type_of_value at.locals value.0) (fits_unary operator))
 broken_value_step at (Value-F.Binary operator left right) =
-    left.1 ++ right.1
-    ++ rule form.Operand
+    left.1 ++ right.1 ++ rule form.Operand
     (where_both_typed (type_of_value at.locals left.0) (type_of_value at.locals right.0) (fits_binary operator))
 broken_value_step at _ = []
 

@@ -104,8 +104,7 @@ faults_in_global p n g = at_position (Static n) None 0 (broken_in_global (sizes_
 -- The faults in the order of the walk: of each type that stands there the first broken rule, and all other ones.
 unfoldable pub faults_of : Program → List FormFault
 faults_of p =
-    each_at (faults_in_global p) 0 p.globals
-    ++ each_at (faults_in_function p) 0 p.functions
+    each_at (faults_in_global p) 0 p.globals ++ each_at (faults_in_function p) 0 p.functions
     ++ at_position (InFunction p.start.0) None 0 (rule form.MainForm (is_main_form p))
 
 -- the first broken rule of the walk

@@ -14,8 +14,7 @@ use Rattle.mr_value.specs.Numbers.{Bytes, part, number_of}
 abbrev pub number_of_bits : IntType → ℕ → Num
 number_of_bits int bits =
     if is_signed int && not (nat_lt bits (2 ^ (8 * int_size int - 1)))
-    then record { neg = true; mag = 2 ^ (8 * int_size int) - bits }
-    else record { neg = false; mag = bits }
+    then record { neg = true; mag = 2 ^ (8 * int_size int) - bits } else record { neg = false; mag = bits }
 
 -- the bits of a number that fits an integer type
 abbrev pub bits_of_number : IntType → Num → ℕ
