@@ -3,7 +3,7 @@ ghost use Rattle.std.specs.Prelude.{◌≡◌, ◌≤◌, ◌-◌, ◌^◌, ℕ,
 ghost use Rattle.mr_ast.specs.FormRules.{code_of};
 ghost use Rattle.mr_layout.specs.Alike.{is_some_tag_used, is_variant_tag_used};
 ghost use Rattle.mr_layout.specs.Rows.{IsRow};
-ghost use Rattle.mr_layout.specs.Tables.{Marks, is_used_row, rule_of, either};
+ghost use Rattle.mr_layout.specs.Tables.{Marks, is_first, is_used_row, rule_of, either};
 ghost use Rattle.mr_layout.specs.Used.{is_used, is_used_field, is_used_in, is_used_variant};
 ghost use Rattle.mr_layout.specs.TypeOk.{broken_rule, first_broken_field, first_broken_variant};
 
@@ -128,36 +128,16 @@ fn broken(store: &mut Store, t: &Ty, table: &mut [u8], start: u64) -> Result<boo
     ensures marks { IfOk result (λ told. told ≡ true → Marks (is_used t.now) start table.old table.new) }
 {
     match t {
-        Ty::Int(int) => {
-            mark_first(table, start, int_bytes(*int));
-            Ok(true)
-        }
-        Ty::Bool => {
-            mark_first(table, start, 1);
-            Ok(true)
-        }
-        Ty::Raw => {
-            mark_first(table, start, 8);
-            Ok(true)
-        }
-        Ty::FnPtr => {
-            mark_first(table, start, 8);
-            Ok(true)
-        }
-        Ty::Ref { size, align, .. } => {
-            mark_first(table, start, 8);
-            unless(ref_rules(*size, *align), true)
-        }
+        Ty::Int(int) => Ok(scalar(table, start, int_bytes(*int))),
+        Ty::Bool => Ok(scalar(table, start, 1)),
+        Ty::Raw => Ok(scalar(table, start, 8)),
+        Ty::FnPtr => Ok(scalar(table, start, 8)),
+        Ty::Ref { size, align, .. } => { unless(ref_rules(*size, *align), scalar(table, start, 8)) }
         Ty::Tuple {
             size,
             align,
             fields,
-        } => {
-            let fields = fields.as_slice();
-            let rule = tuple_rules(store.room, *size, *align, fields);
-            let told = first_broken_field(store, fields, table, place_of(rule, start))?;
-            unless(rule, told)
-        }
+        } => broken_tuple(store, *size, *align, fields.as_slice(), table, start),
         Ty::Array { count, elem } => {
             let told = broken_elem(store, *count, elem.get(), table, start)?;
             unless(array_rules(*count, elem.get()), told)
@@ -167,14 +147,15 @@ fn broken(store: &mut Store, t: &Ty, table: &mut [u8], start: u64) -> Result<boo
             align,
             fields,
             chunks,
-        } => {
-            let fields = fields.as_slice();
-            let chunks = chunks.as_slice();
-            let told = first_broken_field(store, fields, table, NOWHERE)?;
-            let sure = unless(union_rules(store.room, *size, *align, fields, chunks), told)?;
-            mark_chunks(table, start, chunks);
-            Ok(sure)
-        }
+        } => broken_union(
+            store,
+            *size,
+            *align,
+            fields.as_slice(),
+            chunks.as_slice(),
+            table,
+            start,
+        ),
         Ty::Enum {
             size,
             align,
@@ -182,21 +163,67 @@ fn broken(store: &mut Store, t: &Ty, table: &mut [u8], start: u64) -> Result<boo
             variants,
             tree,
         } => {
-            let used = broken_variants(store, *size, variants.as_slice(), table, start)?;
-            unless(
-                enum_rules(
-                    store.room,
-                    *size,
-                    *align,
-                    *disc,
-                    variants.as_slice(),
-                    tree,
-                    used,
-                ),
-                used.is_some(),
-            )
+            let variants = variants.as_slice();
+            let used = broken_variants(store, *size, variants, table, start)?;
+            let rule = enum_rules(store.room, *size, *align, *disc, variants, tree, used);
+            unless(rule, used.is_some())
         }
     }
+}
+
+// Marks the bytes of a scalar, which are its first ones, and tells so.
+fn scalar(table: &mut [u8], start: u64, len: u64) -> bool
+    ensures told { result ≡ true }
+    ensures marks { Marks (is_first len) start table.old table.new }
+{
+    mark_first(table, start, len);
+    true
+}
+
+// The first broken rule of a tuple.
+#[cycle(broken)]
+#[tactic(auto, using(crate::proofs::BrokenLaws::broken_laws))]
+fn broken_tuple(
+    store: &mut Store,
+    size: u64,
+    align: u64,
+    fields: &[(u64, Ty)],
+    table: &mut [u8],
+    start: u64,
+) -> Result<bool, Rule>
+    requires small { length table.old ≤ 2 ^ 20 }
+    ensures rule { rule_of result ≡ broken_rule (Ty.Tuple size align fields.now) }
+    ensures long { length table.new ≡ length table.old }
+    ensures marks { IfOk result (λ told. told ≡ true
+        → Marks (is_used (Ty.Tuple size align fields.now)) start table.old table.new) }
+{
+    let rule = tuple_rules(store.room, size, align, fields);
+    let told = first_broken_field(store, fields, table, place_of(rule, start))?;
+    unless(rule, told)
+}
+
+// The first broken rule of a union. The bytes of its chunks are marked, and none of its fields.
+#[cycle(broken)]
+#[tactic(auto, using(crate::proofs::BrokenLaws::broken_laws))]
+fn broken_union(
+    store: &mut Store,
+    size: u64,
+    align: u64,
+    fields: &[(u64, Ty)],
+    chunks: &[(u64, u64)],
+    table: &mut [u8],
+    start: u64,
+) -> Result<bool, Rule>
+    requires small { length table.old ≤ 2 ^ 20 }
+    ensures rule { rule_of result ≡ broken_rule (Ty.Union size align fields.now chunks.now) }
+    ensures long { length table.new ≡ length table.old }
+    ensures marks { IfOk result (λ told. told ≡ true
+        → Marks (is_used (Ty.Union size align fields.now chunks.now)) start table.old table.new) }
+{
+    let told = first_broken_field(store, fields, table, NOWHERE)?;
+    let sure = unless(union_rules(store.room, size, align, fields, chunks), told)?;
+    mark_chunks(table, start, chunks);
+    Ok(sure)
 }
 
 #[cycle(broken)]

@@ -1,4 +1,4 @@
-use Rattle.std.proofs.Common.{◌≡◌, ℕ, ◌≤◌, Bool, true, false, List, Option, Some, None, length, refl, sym, ap, subst, ◌∙◌, arith}
+use Rattle.std.proofs.Common.{◌≡◌, ℕ, ◌≤◌, Bool, true, false, List, Option, Some, None, length, refl, sym, ap, ap₂, subst, ◌∙◌, arith}
 use Rattle.std.specs.Prelude.{nat_lt, IfSome, is_some}
 use Rattle.std.proofs.lemmas.Result.{IfOk-weaker}
 use Rattle.mr_ast.specs.declared.types.Tag.{Tag}
@@ -16,39 +16,58 @@ use Rattle.mr_layout.proofs.ok.+broken.Goals as goal
 
 pub broken-returns-in-Int-clause-marks : goal.broken-returns-in-Int-clause-marks
 broken-returns-in-Int-clause-marks t c = λ _.
-    marks_alike (is_first c.int_bytes.result) (is_used c.args.t.now) c.args.start c.args.table.now c.mark_first.new.table
-    (λ at. ap (nat_lt at) c.int_bytes.ensures ∙ sym (ap (λ (u : Ty). is_used u at) c.in-Int.is ∙ used_int _ at)) c.mark_first.ensures
+    marks_alike (is_first c.int_bytes.result) (is_used c.args.t.now) c.args.start c.args.table.now c.scalar.new.table
+    (λ at. ap (nat_lt at) c.int_bytes.ensures ∙ sym (ap (λ (u : Ty). is_used u at) c.in-Int.is ∙ used_int _ at)) c.scalar.ensures.marks
 
 pub broken-returns-in-Bool-clause-marks : goal.broken-returns-in-Bool-clause-marks
 broken-returns-in-Bool-clause-marks t c = λ _.
-    marks_alike (is_first 1) (is_used c.args.t.now) c.args.start c.args.table.now c.mark_first-in-Bool.new.table
-    (λ at. sym (ap (λ (u : Ty). is_used u at) c.in-Bool.is ∙ used_bool at)) c.mark_first-in-Bool.ensures
+    marks_alike (is_first 1) (is_used c.args.t.now) c.args.start c.args.table.now c.scalar-in-Bool.new.table
+    (λ at. sym (ap (λ (u : Ty). is_used u at) c.in-Bool.is ∙ used_bool at)) c.scalar-in-Bool.ensures.marks
 
 pub broken-returns-in-Raw-clause-marks : goal.broken-returns-in-Raw-clause-marks
 broken-returns-in-Raw-clause-marks t c = λ _.
-    marks_alike (is_first 8) (is_used c.args.t.now) c.args.start c.args.table.now c.mark_first-in-Raw.new.table
-    (λ at. sym (ap (λ (u : Ty). is_used u at) c.in-Raw.is ∙ used_raw at)) c.mark_first-in-Raw.ensures
+    marks_alike (is_first 8) (is_used c.args.t.now) c.args.start c.args.table.now c.scalar-in-Raw.new.table
+    (λ at. sym (ap (λ (u : Ty). is_used u at) c.in-Raw.is ∙ used_raw at)) c.scalar-in-Raw.ensures.marks
 
 pub broken-returns-in-FnPtr-clause-marks : goal.broken-returns-in-FnPtr-clause-marks
 broken-returns-in-FnPtr-clause-marks t c = λ _.
-    marks_alike (is_first 8) (is_used c.args.t.now) c.args.start c.args.table.now c.mark_first-in-FnPtr.new.table
-    (λ at. sym (ap (λ (u : Ty). is_used u at) c.in-FnPtr.is ∙ used_fn_ptr at)) c.mark_first-in-FnPtr.ensures
+    marks_alike (is_first 8) (is_used c.args.t.now) c.args.start c.args.table.now c.scalar-in-FnPtr.new.table
+    (λ at. sym (ap (λ (u : Ty). is_used u at) c.in-FnPtr.is ∙ used_fn_ptr at)) c.scalar-in-FnPtr.ensures.marks
 
 pub broken-returns-in-Ref-clause-marks : goal.broken-returns-in-Ref-clause-marks
 broken-returns-in-Ref-clause-marks t c =
     IfOk-weaker c.unless.result _ _
     (λ b h e.
-    marks_alike (is_first 8) (is_used c.args.t.now) c.args.start c.args.table.now c.mark_first-in-Ref.new.table
-    (λ at. sym (ap (λ (u : Ty). is_used u at) c.in-Ref.is ∙ used_ref _ _ _ at)) c.mark_first-in-Ref.ensures)
+    marks_alike (is_first 8) (is_used c.args.t.now) c.args.start c.args.table.now c.scalar-in-Ref.new.table
+    (λ at. sym (ap (λ (u : Ty). is_used u at) c.in-Ref.is ∙ used_ref _ _ _ at)) c.scalar-in-Ref.ensures.marks)
     c.unless.ensures.told
 
-pub broken-returns-in_ok-told-in-Tuple-clause-marks : goal.broken-returns-in_ok-told-in-Tuple-clause-marks
-broken-returns-in_ok-told-in-Tuple-clause-marks t c =
-    told_then c.unless-in-Tuple.result c.tuple_rules-rule.result _ _ c.unless-in-Tuple.ensures.rule c.unless-in-Tuple.ensures.told
+pub broken-returns-in-Tuple-clause-marks : goal.broken-returns-in-Tuple-clause-marks
+broken-returns-in-Tuple-clause-marks t c =
+    IfOk-weaker c.broken_tuple.result _ _
+    (λ told h e.
+    marks_alike (is_used (ty.Tuple c.in-Tuple.size c.in-Tuple.align c.as_slice.result.now)) (is_used c.args.t.now) c.args.start c.args.table.now c.broken_tuple.new.table
+    (λ at. ap (λ (fields : List (ℕ × Ty)). is_used (ty.Tuple c.in-Tuple.size c.in-Tuple.align fields) at) c.as_slice.ensures
+    ∙ sym (ap (λ (u : Ty). is_used u at) c.in-Tuple.is)) (h e))
+    c.broken_tuple.ensures.marks
+
+pub broken-returns-in-Union-clause-marks : goal.broken-returns-in-Union-clause-marks
+broken-returns-in-Union-clause-marks t c =
+    let here = c.in-Union in
+    let same = ap₂ (ty.Union here.size here.align) c.as_slice-in-Union.ensures c.as_slice-in-Union-2.ensures ∙ sym here.is in
+    IfOk-weaker c.broken_union.result _ _
+    (λ told h e.
+    marks_alike (is_used (ty.Union here.size here.align c.as_slice-in-Union.result.now c.as_slice-in-Union-2.result.now)) (is_used c.args.t.now) c.args.start c.args.table.now c.broken_union.new.table
+    (λ at. ap (λ (u : Ty). is_used u at) same) (h e))
+    c.broken_union.ensures.marks
+
+pub broken_tuple-returns-clause-marks : goal.broken_tuple-returns-clause-marks
+broken_tuple-returns-clause-marks t c =
+    told_then c.unless.result c.tuple_rules-rule.result _ _ c.unless.ensures.rule c.unless.ensures.told
     (λ none e.
-    marks_alike (is_used_field c.as_slice-fields.result.now) (is_used c.args.t.now) c.args.start c.args.table.now c.first_broken_field.new.table
-    (λ at. ap (λ (fields : List (ℕ × Ty)). is_used_field fields at) c.as_slice-fields.ensures ∙ sym (ap (λ (u : Ty). is_used u at) c.in-Tuple.is ∙ used_tuple _ _ _ at))
-    (subst (λ at. Marks (is_used_field c.as_slice-fields.result.now) at c.args.table.now c.first_broken_field.new.table) (c.place_of.ensures none) (c.in_ok-told-in-Tuple.ensures.marks e)))
+    marks_alike (is_used_field c.args.fields.now) (is_used (ty.Tuple c.args.size c.args.align c.args.fields.now)) c.args.start c.args.table.now c.first_broken_field.new.table
+    (λ at. sym (used_tuple _ _ _ at))
+    (subst (λ at. Marks (is_used_field c.args.fields.now) at c.args.table.now c.first_broken_field.new.table) (c.place_of.ensures none) (c.in_ok-told.ensures.marks e)))
 
 pub broken-returns-in_ok-told-in-Array-clause-marks : goal.broken-returns-in_ok-told-in-Array-clause-marks
 broken-returns-in_ok-told-in-Array-clause-marks t c =
@@ -59,14 +78,14 @@ broken-returns-in_ok-told-in-Array-clause-marks t c =
     (c.in_ok-told-in-Array.ensures.marks (sym h ∙ e)))
     c.unless-in-Array.ensures.told
 
-pub broken-returns-in_ok-sure-in-Union-clause-marks : goal.broken-returns-in_ok-sure-in-Union-clause-marks
-broken-returns-in_ok-sure-in-Union-clause-marks t c =
+pub broken_union-returns-clause-marks : goal.broken_union-returns-clause-marks
+broken_union-returns-clause-marks t c =
     let past : length c.args.table.now ≤ 18446744073709551615 = omega arith in
     λ e.
-    marks_then (λ at. false) (is_in_chunk c.as_slice-chunks.result.now) (is_used c.args.t.now) c.args.start c.args.table.now c.first_broken_field-in-Union.new.table c.mark_chunks.new.table
-    (λ at. ap (λ (u : Ty). is_used u at) c.in-Union.is ∙ used_union _ _ _ _ at ∙ sym (ap (λ (chunks : List (ℕ × ℕ)). is_in_chunk chunks at) c.as_slice-chunks.ensures))
-    (marks_nowhere (is_used_field c.as_slice-fields-in-Union.result.now) (λ at. false) 18446744073709551615 c.args.start c.args.table.now c.first_broken_field-in-Union.new.table past (λ at. refl)
-    (c.in_ok-told-in-Union.ensures.marks (sym c.in_ok-sure-in-Union.ensures.told ∙ e)))
+    marks_then (λ at. false) (is_in_chunk c.args.chunks.now) (is_used (ty.Union c.args.size c.args.align c.args.fields.now c.args.chunks.now)) c.args.start c.args.table.now c.first_broken_field.new.table c.mark_chunks.new.table
+    (λ at. used_union _ _ _ _ at)
+    (marks_nowhere (is_used_field c.args.fields.now) (λ at. false) 18446744073709551615 c.args.start c.args.table.now c.first_broken_field.new.table past (λ at. refl)
+    (c.in_ok-told.ensures.marks (sym c.in_ok-sure.ensures.told ∙ e)))
     c.mark_chunks.ensures
 
 -- what is told of an enum, where it is known
@@ -78,8 +97,8 @@ pub broken-returns-in_ok-used-in-Enum-clause-marks : goal.broken-returns-in_ok-u
 broken-returns-in_ok-used-in-Enum-clause-marks t c =
     IfOk-weaker c.unless-in-Enum.result _ _
     (λ b h e.
-    marks_alike (is_used_in c.as_slice.result.now) (is_used c.args.t.now) c.args.start c.args.table.now c.broken_variants.new.table
-    (λ at. ap (λ (variants : List Variant). is_used_in variants at) c.as_slice.ensures ∙ sym (ap (λ (u : Ty). is_used u at) c.in-Enum.is ∙ used_enum _ _ _ _ _ at))
+    marks_alike (is_used_in c.as_slice-variants.result.now) (is_used c.args.t.now) c.args.start c.args.table.now c.broken_variants.new.table
+    (λ at. ap (λ (variants : List Variant). is_used_in variants at) c.as_slice-variants.ensures ∙ sym (ap (λ (u : Ty). is_used u at) c.in-Enum.is ∙ used_enum _ _ _ _ _ at))
     (known c.in_ok-used-in-Enum.used _ c.in_ok-used-in-Enum.ensures.marks (sym c.is_some.ensures ∙ sym h ∙ e)))
     c.unless-in-Enum.ensures.told
 
