@@ -54,7 +54,6 @@ fn prepare(
     numbers: &mut Vec<u32>,
     latest: &mut Clock,
     wakers: &mut Wakers,
-    hints: &mut Vec<u32>,
     links: &mut Vec<Link>,
     skips: &mut Vec<Skip>,
     more: usize,
@@ -85,7 +84,6 @@ fn prepare(
     reserve_table(skips, more)?;
     clocks.reserve(1)?;
     numbers.reserve(1)?;
-    fill_hints(hints)?;
     prepare_wakes(run, wakers, j)?;
     latest.raise(thread_at(run, j), j as u32 + 1)?;
     Ok(())
@@ -155,7 +153,7 @@ fn enter(
     let number = numbered(clocks, numbers.as_slice(), next, made);
     numbers.push_reserved(number);
     enter_wakes(run, wakers, j);
-    note_hint(hints, slots.noted, j);
+    note_hint(hints, slots, j);
     note_all(run, rows, links, places, j);
     store_all(alloc, skips, left);
 }
@@ -234,8 +232,9 @@ fn add_walked(
         j,
     );
     let (more, noted) = (here.skips.len(), places.len());
+    fill_hints(hints)?;
     prepare(
-        run, clocks, numbers, latest, wakers, hints, links, skips, more, noted, j,
+        run, clocks, numbers, latest, wakers, links, skips, more, noted, j,
     )?;
     enter(
         alloc, run, clocks, numbers, wakers, hints, rows, links, skips, next, places, slots, j,
@@ -292,7 +291,6 @@ fn add_settled(
         numbers,
         latest,
         wakers,
-        hints,
         links,
         skips,
         0,
@@ -357,7 +355,7 @@ fn add_step(
         numbers.as_slice(),
         &*latest,
         hints.as_slice(),
-        slots.asked,
+        slots,
         j,
     );
     let is_settled = is_settled(

@@ -101,3 +101,6 @@ returns-in_err-here-clause-keys c = keys_same c.args.rows.now.items
 
 pub returns-in_err-prepare-clause-keys : goal.returns-in_err-prepare-clause-keys
 returns-in_err-prepare-clause-keys c = keys_same c.args.rows.now.items
+
+pub returns-in_err-fill_hints-clause-keys : goal.returns-in_err-fill_hints-clause-keys
+returns-in_err-fill_hints-clause-keys c = keys_same c.args.rows.now.items
