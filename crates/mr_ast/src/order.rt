@@ -257,13 +257,9 @@ impl Ty {
         ensures { (head_of self.now).kind ≡ (head_of other.now).kind → result ≡ parts_cmp self.now other.now }
     {
         match (self, other) {
-            (
-                Ty::Tuple { fields, .. },
-                Ty::Tuple {
-                    fields: fields2,
-                    ..
-                },
-            ) => { order_fields(fields.as_slice(), fields2.as_slice()) }
+            (Ty::Tuple { fields, .. }, Ty::Tuple { fields: others, .. }) => {
+                order_fields(fields.as_slice(), others.as_slice())
+            }
             (Ty::Array { elem, .. }, Ty::Array { elem: elem2, .. }) => {
                 elem.get().order(elem2.get())
             }
