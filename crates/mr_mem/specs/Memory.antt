@@ -48,14 +48,8 @@ held _ size = size
 
 -- a new allocation, all of whose bytes are uninitialised
 abbrev pub fresh : Kind → ℕ → ℕ → ℕ → Allocation
-fresh kind size align addr = record {
-  addr = addr;
-  span = size;
-  align = align;
-  kind = kind;
-  live = true;
-  bytes = replicate (held kind size) Uninit;
-}
+fresh kind n align addr =
+    record { addr = addr; span = n; align = align; kind = kind; live = true; bytes = replicate (held kind n) Uninit }
 
 -- a memory with one more allocation, whose bytes are uninitialised
 abbrev pub allocated : Memory → AllocId → Kind → ℕ → ℕ → ℕ → Memory

@@ -60,12 +60,9 @@ started_threads (Some new) = thread_of new 0 ∷ []
 
 -- the state behind a step that went on, and the verdict behind one that ended the run
 abbrev pub settle : {L : Type 0} → State L → ℕ → Flow L → Shared × Notes → Bare L
-settle s t (Goes own started) w =
+settle s t (Goes own new) w =
     Completed w.1
-    (record {
-      shared = w.0;
-      threads = slice_set s.threads t (thread_of own w.1.tally.count) ++ started_threads started;
-    })
+    (record { shared = w.0; threads = slice_set s.threads t (thread_of own w.1.tally.count) ++ started_threads new })
 settle s t Exits w = Stops (if leaks w.0.memory then verdict.Leak else verdict.Exit) None
 settle s t Aborts w = Stops verdict.Abort None
 
