@@ -1,6 +1,6 @@
 //! A vector clock. (Lamport; FastTrack: vector clocks.)
 
-ghost use Rattle.std.specs.Prelude.{◌≡◌, ◌≢◌, ℕ, ◌+◌, ◌<◌, ◌≤◌, ◌^◌, ◌↔◌, [], max, if◌then◌else◌, ◌==◌, length, slice_index, IfOk, IsTrue, OnOk, OnErr};
+ghost use Rattle.std.specs.Prelude.{◌≡◌, ◌≢◌, ℕ, ◌+◌, ◌<◌, ◌≤◌, ◌^◌, ◌↔◌, [], max, length, slice_index, IfOk, IsTrue, OnOk, OnErr};
 ghost use Rattle.mr_clocks.specs.Clocks.{Follows};
 
 use mr_event::OutOfMemory;

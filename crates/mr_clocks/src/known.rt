@@ -1,6 +1,6 @@
 //! Whether a clock knows the latest steps of rows, or all steps there that an edge may lead from.
 
-ghost use Rattle.std.specs.Prelude.{◌≡◌, ◌≢◌, ℕ, ◌+◌, ◌<◌, IsFalse, IsTrue, length, slice_index};
+ghost use Rattle.std.specs.Prelude.{◌≢◌, ℕ, ◌<◌, IsFalse, IsTrue, length, slice_index};
 ghost use Rattle.mr_event.specs.Order.{thread_at};
 ghost use Rattle.mr_clocks.specs.Rows.{ArePlacesKnown, AreRows, IsPlaceKnown, IsPlaceSeen, row_at};
 

@@ -1,7 +1,7 @@
 //! The addresses of a step's accesses as spans in order. A step with many accesses finds by them in a few looks whether
 //! it may ask for a range, and which part of a shelf it has to look at.
 
-ghost use Rattle.std.specs.Prelude.{◌≡◌, ◌<◌, ◌≤◌, IfOk, IfSome, IsTrue, OnOk, false, length, nat_lt};
+ghost use Rattle.std.specs.Prelude.{◌≡◌, ◌<◌, IfOk, IfSome, IsTrue, OnOk, false, nat_lt};
 ghost use Rattle.std.specs.List.{Contains};
 ghost use Rattle.std.specs.List.Sorted.{IsNonDecreasingBy};
 ghost use Rattle.mr_base.specs.Accesses.{overlaps};

@@ -1,6 +1,6 @@
 //! The order of a whole run, of any length.
 
-ghost use Rattle.std.specs.Prelude.{◌≡◌, ℕ, ◌<◌, ◌^◌, ◌↔◌, All, IsTrue, IfOk, length, slice_index_or, vec_len, false};
+ghost use Rattle.std.specs.Prelude.{◌≡◌, ℕ, ◌<◌, ◌↔◌, All, IsTrue, IfOk, length, slice_index_or, vec_len, false};
 ghost use Rattle.mr_event.specs.Order.{HappensBefore, thread_at};
 ghost use Rattle.mr_clocks.specs.Whole.{AreFronts, IsNeeded, IsOrderOf, IsReady, front_of};
 
