@@ -15,7 +15,7 @@ ghost use Rattle.mr_sched.specs.declared.version.Version.{Version};
 ghost use Rattle.mr_gen.specs.Generated.{generated};
 ghost use Rattle.mr_command.specs.AnswerAnswers.{big_answer, big_schedule};
 ghost use Rattle.mr_command.specs.Answer.{usage};
-ghost use Rattle.mr_command.specs.Command.{command_of, named_files, Big, NamesProgram};
+ghost use Rattle.mr_command.specs.Command.{command_of, named_files, NamesProgram, OfNumber};
 ghost use Rattle.mr_command.specs.Headline.{IsOfMachine, Names};
 ghost use Rattle.mr_input.specs.Inputs.{AsksForSchedule};
 ghost use Rattle.mr_command.specs.Named.{IsSoundUnder, IsUnreadBecause};
@@ -68,12 +68,12 @@ pub fn mirace<F: Files, O: Sink>(alloc: Global, words: &[String], files: &mut F,
         (Rose (O.faults out.old) (O.faults out.new)) (O.taken out.old) (O.taken out.new) result }
 
     // A schedule is drawn for the program of a number, whatever the files are; its summary is written.
-    ensures big { (number : ℕ) → command_of (map string_bytes words.now) ≡ Some (Big number)
+    ensures big { (number : ℕ) → command_of (map string_bytes words.now) ≡ Some (OfNumber number)
         → IsSoundUnder (generated number) (big_schedule number)
         × (IsLeft (O.taken out.old) (O.taken out.new) result
         ⊎ IsWritten (big_answer number) (Rose (O.faults out.old) (O.faults out.new))
         (O.taken out.old) (O.taken out.new) result) }
-    ensures grows { (number : ℕ) → command_of (map string_bytes words.now) ≡ Some (Big number)
+    ensures grows { (number : ℕ) → command_of (map string_bytes words.now) ≡ Some (OfNumber number)
         → ¬ Rose (O.faults out.old) (O.faults out.new) → (result ≤ 1) ⊎ (result ≡ 8) }
 
     // Whatever the files tell.

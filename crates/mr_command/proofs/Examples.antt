@@ -1,21 +1,22 @@
 -- Words, computed.
 use Rattle.std.proofs.Common.{◌≡◌, [], ◌∷◌, Some, None, codes, refl}
 use Rattle.mr_answer.specs.declared.formats.Format.TheVariants as Format
-use Rattle.mr_command.specs.Command.{Check, Offline, Run, Upgrade, command_of}
+use Rattle.mr_command.specs.declared.command.Saying.TheVariants.{Canonical}
+use Rattle.mr_command.specs.Command.{OfProgram, OfSchedule, OfTrace, Run, command_of}
 
 the_form : command_of (codes "run" ∷ codes "P" ∷ codes "S" ∷ []) ≡ Some (Run Format.Text (codes "P") (codes "S"))
 the_form = refl
 
-the_other_form : command_of (codes "check" ∷ codes "P" ∷ []) ≡ Some (Check (codes "P"))
+the_other_form : command_of (codes "check" ∷ codes "P" ∷ []) ≡ Some (OfProgram Canonical (codes "P"))
 the_other_form = refl
 
-the_upgrade : command_of (codes "upgrade" ∷ codes "S" ∷ []) ≡ Some (Upgrade (codes "S"))
+the_upgrade : command_of (codes "upgrade" ∷ codes "S" ∷ []) ≡ Some (OfSchedule (codes "S"))
 the_upgrade = refl
 
 the_trace : command_of (codes "trace" ∷ codes "P" ∷ codes "S" ∷ []) ≡ Some (Run Format.Footprints (codes "P") (codes "S"))
 the_trace = refl
 
-the_offline : command_of (codes "offline" ∷ codes "T" ∷ []) ≡ Some (Offline (codes "T"))
+the_offline : command_of (codes "offline" ∷ codes "T" ∷ []) ≡ Some (OfTrace (codes "T"))
 the_offline = refl
 
 a_word_more : command_of (codes "check" ∷ codes "P" ∷ codes "S" ∷ []) ≡ None

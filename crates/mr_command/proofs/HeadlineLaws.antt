@@ -41,7 +41,7 @@ use Rattle.mr_answer.specs.declared.formats.Format.TheVariants as format
 use Rattle.mr_answer.specs.Answers.{big_answer, big_schedule, ran, legal_run, unless_broken, line_at, listed, reported}
 use Rattle.mr_answer.proofs.StatusLaws.{at_most_one}
 use Rattle.mr_command.specs.declared.command.Saying.{Saying}
-use Rattle.mr_command.specs.Command.{Big, Command, NamesProgram, OfNumber, OfProgram, OfSchedule, OfTrace, Run}
+use Rattle.mr_command.specs.Command.{Command, NamesProgram, OfNumber, OfProgram, OfSchedule, OfTrace, Run}
 use Rattle.mr_command.specs.Answer.{races_in, read_report, said, said_answer, shown, report_under, run_answer, upgrade_answer, upgraded, answer_of}
 use Rattle.mr_command.specs.Outcome.{Ends, EndsOverTexts, RanOut, IsPossible, IsUnread}
 use Rattle.mr_command.specs.Named.{AsksOf, IsSoundUnder, NamesRun, NamesBroken, NamesBrokenSchedule, NamesFault, NamesScheduleFault, KeepsResult, ReadsSchedule, RunsProgram, ReportsRun, IsTold, ShowsFirstRace, Upgrades}
@@ -289,25 +289,25 @@ big_soundly number = drawn_soundly (generated number) number 65536 (well_formed 
 
 module _ (number : ℕ) (files_rose out_rose : Type 0) (old new : Option (List ℕ)) (status : ℕ) where
   -- its summary is written, unless memory ran out
-  big_told : (files : Contents) (command : Option Command) → command ≡ Some (Big number) → Ends files command files_rose out_rose old new status
+  big_told : (files : Contents) (command : Option Command) → command ≡ Some (OfNumber number) → Ends files command files_rose out_rose old new status
       → IsLeft old new status ⊎ IsWritten (big_answer number) out_rose old new status
   big_told files command e ends = go (subst (λ c. Ends files c files_rose out_rose old new status) e ends)
     where
-      go : Ends files (Some (Big number)) files_rose out_rose old new status → IsLeft old new status ⊎ IsWritten (big_answer number) out_rose old new status
+      go : Ends files (Some (OfNumber number)) files_rose out_rose old new status → IsLeft old new status ⊎ IsWritten (big_answer number) out_rose old new status
       go (inl out) = inl out
       go (inr (a, inl is, written)) = inr (subst (λ (b : Answer). IsWritten b out_rose old new status) is written)
       go (inr (a, inr (rose, unread), written)) = absurd unread
 
   -- whatever the files tell
-  pub big_written : (tale : Option Contents) (command : Option Command) → command ≡ Some (Big number)
+  pub big_written : (tale : Option Contents) (command : Option Command) → command ≡ Some (OfNumber number)
       → ((files : Contents) → tale ≡ Some files → Ends files command files_rose out_rose old new status)
       → (tale ≡ None → EndsOverTexts command files_rose out_rose old new status)
       → IsLeft old new status ⊎ IsWritten (big_answer number) out_rose old new status
   big_written (Some files) command e ends texts = big_told files command e (ends files refl)
   big_written None command e ends texts = over (subst (λ c. EndsOverTexts c files_rose out_rose old new status) e (texts refl))
     where
-      over : EndsOverTexts (Some (Big number)) files_rose out_rose old new status → IsLeft old new status ⊎ IsWritten (big_answer number) out_rose old new status
-      over (program, schedule, ends) = big_told (holding program schedule) (Some (Big number)) refl ends
+      over : EndsOverTexts (Some (OfNumber number)) files_rose out_rose old new status → IsLeft old new status ⊎ IsWritten (big_answer number) out_rose old new status
+      over (program, schedule, ends) = big_told (holding program schedule) (Some (OfNumber number)) refl ends
 
   pub big_unless_faults : IsLeft old new status ⊎ IsWritten (big_answer number) out_rose old new status → ¬ out_rose → (status ≤ 1) ⊎ (status ≡ 8)
   big_unless_faults (inl left) no_write = inr left.0

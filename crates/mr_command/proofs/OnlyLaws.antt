@@ -25,7 +25,7 @@ use Rattle.mr_trace.specs.Reading.{Place, races_in as races_read, trace_of}
 use Rattle.mr_trace.proofs.TraceLaws.{fault_is, trace_is}
 use Rattle.mr_answer.specs.declared.formats.Format.{Format}
 use Rattle.mr_command.specs.declared.command.Saying.{Saying}
-use Rattle.mr_command.specs.Command.{Command, OfProgram, Offline, Run, Upgrade}
+use Rattle.mr_command.specs.Command.{Command, OfProgram, OfSchedule, OfTrace, Run}
 use Rattle.mr_input.specs.Answer.{Answer, form_or, told}
 use Rattle.mr_input.specs.Inputs.{denoted, program_in, schedule_in, spelled}
 use Rattle.mr_answer.specs.Answers.{Ran, listed, ran, reported, unless_broken}
@@ -136,13 +136,13 @@ fault_of (Err f) s = (f, refl)
 
 module _ (files : Contents) (schedule : List ℕ) where
   upgraded_of : (file : Option (List ℕ)) → files schedule ≡ file → (told upgrade_answer (schedule_in file)).status ≤ 1
-      → (v : Version) × (w : Schedule) × Upgrades files (Some (Upgrade schedule)) v w
+      → (v : Version) × (w : Schedule) × Upgrades files (Some (OfSchedule schedule)) v w
   upgraded_of None e s = let six : 6 ≤ 1 = s in absurd (omega arith)
   upgraded_of (Some text) e s =
       let (x, spells) = read_of (schedule_of text) s in
       (x.version, x.schedule, record { name = schedule; is_upgrade = refl; text = text; there = e; schedules = schedule_read text x spells })
 
-  faulty_of : (file : Option (List ℕ)) → files schedule ≡ file → (told upgrade_answer (schedule_in file)).status ≡ 5 → HasScheduleFault files (Some (Upgrade schedule))
+  faulty_of : (file : Option (List ℕ)) → files schedule ≡ file → (told upgrade_answer (schedule_in file)).status ≡ 5 → HasScheduleFault files (Some (OfSchedule schedule))
   faulty_of None e s = let six : 6 ≡ 5 = s in absurd (omega arith)
   faulty_of (Some text) e s =
       let (f, fails) = fault_of (schedule_of text) s in
@@ -162,7 +162,7 @@ long_status : (text : List ℕ) → 2 ^ 28 < length text → (told listed (races
 long_status text long = ap (λ r. (told listed r).status) (long_trace (Some text) text refl long)
 
 module _ (files : Contents) (trace : List ℕ) where
-  replayed_of : (file : Option (List ℕ)) → files trace ≡ file → HasBytes file → (told listed (races_in file)).status ≤ 1 → (run : List Footprint) × Replays files (Some (Offline trace)) run
+  replayed_of : (file : Option (List ℕ)) → files trace ≡ file → HasBytes file → (told listed (races_in file)).status ≤ 1 → (run : List Footprint) × Replays files (Some (OfTrace trace)) run
   replayed_of None e bytes s = absurd bytes
   replayed_of (Some text) e (inr long) s = let nine = long_status text long in absurd (omega (arith, s, nine))
   replayed_of (Some text) e (inl bytes) s =
@@ -170,7 +170,7 @@ module _ (files : Contents) (trace : List ℕ) where
       let (run, reads) = run_in_trace (trace_of text) small in
       (run, record { name = trace; is_offline = refl; bytes = text; there = e; traces = trace_is text run bytes reads })
 
-  trace_faulty_of : (file : Option (List ℕ)) → files trace ≡ file → HasBytes file → (told listed (races_in file)).status ≡ 9 → HasTraceFault files (Some (Offline trace))
+  trace_faulty_of : (file : Option (List ℕ)) → files trace ≡ file → HasBytes file → (told listed (races_in file)).status ≡ 9 → HasTraceFault files (Some (OfTrace trace))
   trace_faulty_of None e bytes s = absurd bytes
   trace_faulty_of (Some text) e (inr long) s =
       (0, TOO_LONG, record { name = trace; is_offline = refl; bytes = text; there = e; first = too_long long refl refl })
@@ -212,18 +212,18 @@ module _ (files : Contents) (files_rose out_rose : Type 0) (old new : Option (Li
       let (p, asks) = said_of files saying program (files program) refl (small_answer (answer_of files command) whole s) in
       (p, asks, same_whole (answer_of files command) (said saying p) (said_answered files command saying p asks) whole)
 
-  upgrade_only : (schedule : List ℕ) → Ends files (Some (Upgrade schedule)) files_rose out_rose old new status → status ≤ 1
-      → WritesUpgraded files (Some (Upgrade schedule)) old new status
+  upgrade_only : (schedule : List ℕ) → Ends files (Some (OfSchedule schedule)) files_rose out_rose old new status → status ≤ 1
+      → WritesUpgraded files (Some (OfSchedule schedule)) old new status
   upgrade_only schedule ends s =
-      let command = Some (Upgrade schedule) in
+      let command = Some (OfSchedule schedule) in
       let whole = whole_answer command ends s in
       let (v, w, upgrades) = upgraded_of files schedule (files schedule) refl (small_answer (answer_of files command) whole s) in
       (v, w, upgrades, same_whole (answer_of files command) (upgraded w) (upgraded_answer files command v w upgrades) whole)
 
-  offline_only : (trace : List ℕ) → HasBytes (files trace) → Ends files (Some (Offline trace)) files_rose out_rose old new status → status ≤ 1
-      → WritesRaces files (Some (Offline trace)) old new status
+  offline_only : (trace : List ℕ) → HasBytes (files trace) → Ends files (Some (OfTrace trace)) files_rose out_rose old new status → status ≤ 1
+      → WritesRaces files (Some (OfTrace trace)) old new status
   offline_only trace bytes ends s =
-      let command = Some (Offline trace) in
+      let command = Some (OfTrace trace) in
       let whole = whole_answer command ends s in
       let (run, replays) = replayed_of files trace (files trace) refl bytes (small_answer (answer_of files command) whole s) in
       (run, replays, same_whole (answer_of files command) (listed (predicted run)) (replayed_answer files command run replays) whole)
@@ -244,8 +244,8 @@ module _ (files : Contents) (files_rose out_rose : Type 0) (old new : Option (Li
   five_answer command (inr (a, inr (rose, unread), inl (same, text))) s = let six = unread_status files command a unread in absurd (omega arith)
   five_answer command (inr (a, inr (rose, unread), inr (seven, rises, part))) s = absurd (omega arith)
 
-  upgrade_faulty : (schedule : List ℕ) → Ends files (Some (Upgrade schedule)) files_rose out_rose old new status → status ≡ 5 → HasScheduleFault files (Some (Upgrade schedule))
-  upgrade_faulty schedule ends s = faulty_of files schedule (files schedule) refl (five_answer (Some (Upgrade schedule)) ends s)
+  upgrade_faulty : (schedule : List ℕ) → Ends files (Some (OfSchedule schedule)) files_rose out_rose old new status → status ≡ 5 → HasScheduleFault files (Some (OfSchedule schedule))
+  upgrade_faulty schedule ends s = faulty_of files schedule (files schedule) refl (five_answer (Some (OfSchedule schedule)) ends s)
 
   pub only_legal : (command : Option Command) (format : Format) (program schedule : List ℕ) → command ≡ Some (Run format program schedule)
       → Ends files command files_rose out_rose old new status → status ≤ 1 → ReportsLegalRun files command format old new status
@@ -259,13 +259,13 @@ module _ (files : Contents) (files_rose out_rose : Type 0) (old new : Option (Li
       let P : Option Command → Type 0 = λ c. Ends files c files_rose out_rose old new status → status ≤ 1 → WritesSaid files c saying old new status in
       subst P (sym e) (said_only saying program)
 
-  pub only_upgraded : (command : Option Command) (schedule : List ℕ) → command ≡ Some (Upgrade schedule)
+  pub only_upgraded : (command : Option Command) (schedule : List ℕ) → command ≡ Some (OfSchedule schedule)
       → Ends files command files_rose out_rose old new status → status ≤ 1 → WritesUpgraded files command old new status
   only_upgraded command schedule e =
       let P : Option Command → Type 0 = λ c. Ends files c files_rose out_rose old new status → status ≤ 1 → WritesUpgraded files c old new status in
       subst P (sym e) (upgrade_only schedule)
 
-  pub only_replayed : (command : Option Command) (trace : List ℕ) → command ≡ Some (Offline trace)
+  pub only_replayed : (command : Option Command) (trace : List ℕ) → command ≡ Some (OfTrace trace)
       → Shown files command status → Ends files command files_rose out_rose old new status → status ≤ 1 → WritesRaces files command old new status
   only_replayed command trace e =
       let P : Option Command → Type 0 = λ c. Shown files c status → Ends files c files_rose out_rose old new status → status ≤ 1 → WritesRaces files c old new status in
@@ -278,7 +278,7 @@ module _ (files : Contents) (files_rose out_rose : Type 0) (old new : Option (Li
       let P : Option Command → Type 0 = λ c. Shown files c status → (answer_of files c).status ≡ 9 → HasTraceFault files c in
       subst P (sym e) (λ known k. trace_faulty_of files trace (files trace) refl (known (inr s)) k) shows nine
 
-  pub only_text : (command : Option Command) (schedule : List ℕ) → command ≡ Some (Upgrade schedule)
+  pub only_text : (command : Option Command) (schedule : List ℕ) → command ≡ Some (OfSchedule schedule)
       → Ends files command files_rose out_rose old new status → status ≡ 5 → HasScheduleFault files command
   only_text command schedule e =
       let P : Option Command → Type 0 = λ c. Ends files c files_rose out_rose old new status → status ≡ 5 → HasScheduleFault files c in

@@ -20,7 +20,7 @@ use Rattle.mr_trace.specs.Reading.{Place, races_of}
 use Rattle.mr_answer.specs.declared.formats.Format.{Format}
 use Rattle.mr_command.specs.declared.command.Saying.{Saying}
 use Rattle.mr_command.specs.declared.command.Saying.TheVariants as saying
-use Rattle.mr_command.specs.Command.{Command, OfNumber, OfProgram, OfSchedule, OfTrace, Offline, Run}
+use Rattle.mr_command.specs.Command.{Command, OfNumber, OfProgram, OfSchedule, OfTrace, Run}
 use Rattle.mr_input.specs.Answer.{Answer, form_or, told}
 use Rattle.mr_input.specs.Inputs.{denoted, program_in, schedule_in, spelled}
 use Rattle.mr_answer.specs.Answers.{Ran, big_answer, big_schedule, listed, ran, reported, unless_broken}
@@ -78,7 +78,7 @@ run_six format file p = form_six (file ≡ None) p (faults_of p) (report_under f
 -- 6 where a file isn't there, 9 to `offline` alone, and else at most 5
 abbrev StatusTells : Contents → Option Command → ℕ → Type 0
 StatusTells files command status =
-    SixIf (LacksFile files command) status ⊎ ((status ≡ 9) × ((trace : List ℕ) × (command ≡ Some (Offline trace))))
+    SixIf (LacksFile files command) status ⊎ ((status ≡ 9) × ((trace : List ℕ) × (command ≡ Some (OfTrace trace))))
 
 module _ (files : Contents) where
   run_tells : (format : Format) (program schedule : List ℕ) (file : Option (List ℕ)) → files program ≡ file
@@ -125,10 +125,10 @@ module _ (files : Contents) where
       go (inl (inr (six, lacking))) = lacking
       go (inr (nine, offline)) = absurd (omega (arith, s, nine))
 
-  pub only_offline : (command : Option Command) → (answer_of files command).status ≡ 9 → (trace : List ℕ) × (command ≡ Some (Offline trace))
+  pub only_offline : (command : Option Command) → (answer_of files command).status ≡ 9 → (trace : List ℕ) × (command ≡ Some (OfTrace trace))
   only_offline command s = go (status_tells command)
     where
-      go : StatusTells files command (answer_of files command).status → (trace : List ℕ) × (command ≡ Some (Offline trace))
+      go : StatusTells files command (answer_of files command).status → (trace : List ℕ) × (command ≡ Some (OfTrace trace))
       go (inl (inl small)) = absurd (omega (arith, s, small))
       go (inl (inr (six, lacking))) = absurd (omega (arith, s, six))
       go (inr (nine, offline)) = offline

@@ -17,26 +17,6 @@ pub data Command : Type 0 where
   OfTrace : (trace : List ℕ) → Command
   OfNumber : (number : ℕ) → Command
 
--- `check P`: the canonical text of the program in a file
-abbrev pub Check : List ℕ → Command
-Check program = OfProgram Canonical program
-
--- `auto P N M`: a schedule of it that is drawn from a number, with at most so many entries, and its report
-abbrev pub Auto : List ℕ → ℕ → ℕ → Command
-Auto program number most = OfProgram (Drawn number most) program
-
--- `upgrade S`: the schedule in a file, written in version 2
-abbrev pub Upgrade : List ℕ → Command
-Upgrade schedule = OfSchedule schedule
-
--- `offline T`: the races that the trace in a file shows
-abbrev pub Offline : List ℕ → Command
-Offline trace = OfTrace trace
-
--- `big N`: a run of the program of a number
-abbrev pub Big : ℕ → Command
-Big number = OfNumber number
-
 -- the format of the report that this word asks for
 abbrev pub format_of : List ℕ → Option Format
 format_of word =
@@ -53,7 +33,7 @@ run_of (Some format) program schedule = Some (Run format program schedule)
 abbrev pub auto_of : List ℕ → Option ℕ → Option ℕ → Option Command
 auto_of program None most = None
 auto_of program (Some number) None = None
-auto_of program (Some number) (Some most) = Some (Auto program number most)
+auto_of program (Some number) (Some most) = Some (OfProgram (Drawn number most) program)
 
 -- a run in another order, where the number is within its limit
 abbrev pub shuffle_of : List ℕ → List ℕ → Option ℕ → Option Command
@@ -63,7 +43,7 @@ shuffle_of program schedule (Some number) = Some (Run (Shuffled number) program 
 -- a run of a generated program, where the number is within its limit
 abbrev pub big_of : Option ℕ → Option Command
 big_of None = None
-big_of (Some number) = Some (Big number)
+big_of (Some number) = Some (OfNumber number)
 
 -- `run P S`, `json P S`, `short P S`, `trace P S`, `shuffle P S N`, `check P`, `auto P N M`, `big N`, `upgrade S` and
 -- `offline T`, where N is below 2^64 and M at most 2^20, and no other form
@@ -73,10 +53,10 @@ command_of (word ∷ program ∷ number ∷ most ∷ []) =
     if bytes_eq word (codes "auto") then auto_of program (number_below (2 ^ 64) number) (number_below (2 ^ 20 + 1) most)
     else (if bytes_eq word (codes "shuffle") then shuffle_of program number (number_below (2 ^ 64) most) else None)
 command_of (word ∷ name ∷ []) =
-    if bytes_eq word (codes "check") then Some (Check name)
+    if bytes_eq word (codes "check") then Some (OfProgram Canonical name)
     else (if bytes_eq word (codes "big") then big_of (number_below (2 ^ 64) name)
-    else (if bytes_eq word (codes "upgrade") then Some (Upgrade name)
-    else (if bytes_eq word (codes "offline") then Some (Offline name) else None)))
+    else (if bytes_eq word (codes "upgrade") then Some (OfSchedule name)
+    else (if bytes_eq word (codes "offline") then Some (OfTrace name) else None)))
 command_of _ = None
 
 -- a schedule is drawn of at most 2^20 entries

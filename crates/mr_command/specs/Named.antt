@@ -15,7 +15,7 @@ use Rattle.mr_typing.specs.declared.fault.FormFault.{FormFault}
 use Rattle.mr_typing.specs.Walk.{FirstBroken, WellFormed}
 use Rattle.mr_answer.specs.declared.formats.Format.{Format}
 use Rattle.mr_answer.specs.declared.formats.Format.TheVariants.{Footprints, Json, Short, Shuffled, Text}
-use Rattle.mr_command.specs.Command.{Command, NamesProgram, NamesSchedule, OfProgram, Offline, Run, Upgrade}
+use Rattle.mr_command.specs.Command.{Command, NamesProgram, NamesSchedule, OfProgram, OfSchedule, OfTrace, Run}
 use Rattle.mr_command.specs.declared.command.Saying.{Saying}
 use Rattle.mr_command.specs.declared.command.Saying.TheVariants.{Canonical, Drawn}
 use Rattle.mr_event.specs.declared.footprint.Pair.{Pair}
@@ -109,7 +109,7 @@ pub record RunsProgram (files : Contents) (command : Option Command) (p : Progra
 -- A file of this name is read for a schedule: such a program is run under it, or it is upgraded.
 abbrev pub ReadsSchedule : Contents → Option Command → List ℕ → Type 0
 ReadsSchedule files command schedule_name =
-    ((p : Program) × RunsProgram files command p schedule_name) ⊎ (command ≡ Some (Upgrade schedule_name))
+    ((p : Program) × RunsProgram files command p schedule_name) ⊎ (command ≡ Some (OfSchedule schedule_name))
 
 -- The text of that file has its first fault as a schedule on this line, with this code.
 pub record NamesScheduleFault (files : Contents) (command : Option Command) (line code : ℕ) : Type 0 where
@@ -194,7 +194,7 @@ pub record IsSoundUnder (p : Program) (w : Schedule) : Type 0 where
 -- the command is to upgrade a file whose text is that of the schedule in the version
 pub record Upgrades (files : Contents) (command : Option Command) (v : Version) (w : Schedule) : Type 0 where
   pub name : List ℕ
-  pub is_upgrade : command ≡ Some (Upgrade name)
+  pub is_upgrade : command ≡ Some (OfSchedule name)
   pub text : List ℕ
   pub there : files name ≡ Some text
   pub schedules : Schedules text v w
@@ -215,7 +215,7 @@ abbrev pub LacksFile : Contents → Option Command → Type 0
 LacksFile files command =
     ((program : List ℕ) × NamesProgram command program × (files program ≡ None))
     ⊎ (((schedule : List ℕ) × NamesSchedule command schedule × (files schedule ≡ None))
-    ⊎ ((trace : List ℕ) × (command ≡ Some (Offline trace)) × (files trace ≡ None)))
+    ⊎ ((trace : List ℕ) × (command ≡ Some (OfTrace trace)) × (files trace ≡ None)))
 
 -- Why a file was not read: a failure, which is counted, or where the files tell what they hold, that it isn't there.
 abbrev pub IsUnreadBecause : Type 0 → Option Contents → Option Command → Type 0

@@ -18,7 +18,8 @@ use Rattle.mr_input.specs.Answer.{form_answer, refused}
 use Rattle.mr_input.specs.Inputs.{text_refusal}
 use Rattle.mr_answer.specs.Answers.{drawn_answer, line_at, listed}
 use Rattle.mr_command.specs.Answer.{canonical, upgraded}
-use Rattle.mr_command.specs.Command.{Auto, Check, Command, Offline, Run, Upgrade}
+use Rattle.mr_command.specs.declared.command.Saying.TheVariants.{Canonical, Drawn}
+use Rattle.mr_command.specs.Command.{Command, OfProgram, OfSchedule, OfTrace, Run}
 use Rattle.mr_command.specs.Named.{ChecksProgram, DrawsFor, HasScheduleFault, IsSoundUnder, IsTold, NamesRun, NamesBroken, NamesBrokenSchedule, NamesFault, NamesScheduleFault, ReportsLegalRun, ReportsRun, Upgrades, WritesCanonical, WritesDrawn, WritesUpgraded}
 use Rattle.mr_command.specs.Traces.{HasTraceFault, NamesTraceFault, Replays, WritesRaces}
 
@@ -48,7 +49,7 @@ pub record PromisesOfRuns (files : Contents) (command : Option Command) (files_r
   pub draws : (number most : ℕ) (p : Program) → DrawsFor files command number most p
       → ¬ files_rose → ¬ out_rose → (status ≤ 1) ⊎ (status ≡ 8)
   -- and for nothing else
-  pub only_drawn : (program : List ℕ) (number most : ℕ) → command ≡ Some (Auto program number most)
+  pub only_drawn : (program : List ℕ) (number most : ℕ) → command ≡ Some (OfProgram (Drawn number most) program)
       → status ≤ 1 → WritesDrawn files command number most old new status
 
 -- OF TEXTS: of programs and of schedules.
@@ -57,7 +58,7 @@ pub record PromisesOfTexts (files : Contents) (command : Option Command) (files_
   -- the canonical text of a well-formed program is written, and of nothing else
   pub canonical : (p : Program) → ChecksProgram files command p
       → IsTold (canonical p) files_rose out_rose old new status
-  pub only_sound : (program : List ℕ) → command ≡ Some (Check program)
+  pub only_sound : (program : List ℕ) → command ≡ Some (OfProgram Canonical program)
       → status ≤ 1 → WritesCanonical files command old new status
   -- a program's text is answered by its first fault
   pub text_fault : (fault : TextFault) → NamesFault files command fault
@@ -71,9 +72,9 @@ pub record PromisesOfTexts (files : Contents) (command : Option Command) (files_
   pub upgrades : (v : Version) (w : Schedule) → Upgrades files command v w
       → ¬ files_rose → ¬ out_rose → (status ≡ 0) ⊎ (status ≡ 8)
   -- nothing else is upgraded, and what refuses a schedule then is a fault of its text
-  pub only_upgraded : (schedule : List ℕ) → command ≡ Some (Upgrade schedule)
+  pub only_upgraded : (schedule : List ℕ) → command ≡ Some (OfSchedule schedule)
       → status ≤ 1 → WritesUpgraded files command old new status
-  pub only_text : (schedule : List ℕ) → command ≡ Some (Upgrade schedule) → status ≡ 5 → HasScheduleFault files command
+  pub only_text : (schedule : List ℕ) → command ≡ Some (OfSchedule schedule) → status ≡ 5 → HasScheduleFault files command
 
 -- OF TRACES. By the first two fields `offline`, of what `trace` wrote of a run, lists the races of the run.
 pub record PromisesOfTraces (files : Contents) (command : Option Command) (files_rose out_rose : Type 0)
@@ -87,7 +88,7 @@ pub record PromisesOfTraces (files : Contents) (command : Option Command) (files
   pub replays : (run : List Footprint) → Replays files command run
       → ¬ files_rose → ¬ out_rose → (status ≤ 1) ⊎ (status ≡ 8)
   -- nothing else has races
-  pub only_replayed : (trace : List ℕ) → command ≡ Some (Offline trace)
+  pub only_replayed : (trace : List ℕ) → command ≡ Some (OfTrace trace)
       → status ≤ 1 → WritesRaces files command old new status
   -- and what refuses bytes is their first fault
   pub trace_fault : (at code : ℕ) → NamesTraceFault files command at code

@@ -6,13 +6,13 @@ use Rattle.mr_io.specs.Files.{Contents}
 use Rattle.mr_trace.specs.Faults.{FirstFault}
 use Rattle.mr_trace.specs.Spelling.{Traces}
 use Rattle.mr_answer.specs.Answers.{listed}
-use Rattle.mr_command.specs.Command.{Command, Offline}
+use Rattle.mr_command.specs.Command.{Command, OfTrace}
 use Rattle.mr_input.specs.Writing.{IsWhole}
 
 -- the command is to list the races of a file whose bytes are those of the run
 pub record Replays (files : Contents) (command : Option Command) (run : List Footprint) : Type 0 where
   pub name : List ℕ
-  pub is_offline : command ≡ Some (Offline name)
+  pub is_offline : command ≡ Some (OfTrace name)
   pub bytes : List ℕ
   pub there : files name ≡ Some bytes
   pub traces : Traces bytes run
@@ -25,7 +25,7 @@ WritesRaces files command old new status =
 -- the command is to list the races of a file whose bytes have this first fault
 pub record NamesTraceFault (files : Contents) (command : Option Command) (at code : ℕ) : Type 0 where
   pub name : List ℕ
-  pub is_offline : command ≡ Some (Offline name)
+  pub is_offline : command ≡ Some (OfTrace name)
   pub bytes : List ℕ
   pub there : files name ≡ Some bytes
   pub first : FirstFault bytes at code
