@@ -12,13 +12,9 @@ use Rattle.mr_sched.specs.declared.schedule.Entry.{Entry}
 use Rattle.mr_sched.specs.declared.schedule.Schedule.{Schedule}
 use Rattle.mr_start.specs.Runs.{Legal, run_of, steps_of}
 
--- what stands past the end of a schedule
-abbrev pub no_entry : Entry
-no_entry = record { thread = 0; picks = [] }
-
--- the entry at a place, counted from 0
+-- the entry at a place, counted from 0; past the end one without picks
 abbrev pub entry_at : List Entry → ℕ → Entry
-entry_at entries k = slice_index_or entries k no_entry
+entry_at entries k = slice_index_or entries k (record { thread = 0; picks = [] })
 
 -- the schedule of the same start line, and of the entries at these places in this order
 abbrev pub schedule_at : Schedule → List ℕ → Schedule

@@ -30,7 +30,7 @@ use Rattle.mr_eval.specs.Tally.{seen_of, with_seen}
 use Rattle.mr_eval.specs.World.{World}
 use Rattle.mr_plan.proofs.ReadingRuns.{on_then, reading_then}
 use Rattle.mr_frame.specs.declared.look.Look.{Look as KeptLook}
-use Rattle.mr_frame.specs.Calls.{free_each, leave, local_type, return_from, return_value, stop}
+use Rattle.mr_frame.specs.Calls.{FramePlan, free_each, leave, local_type, return_from, return_value, stop}
 use Rattle.mr_frame.specs.Changes.{IsChange, change, free_storage}
 use Rattle.mr_frame.specs.Effects.{acted, asked, asks_of, changed, chosen, planned, pointed, there_or_broken, unstored}
 use Rattle.mr_frame.specs.Ending.{freed_each, left_by, returned}
@@ -40,7 +40,7 @@ use Rattle.mr_frame.specs.Sites.{AtStatement, AtTerminator, Due, Site, site_of}
 use Rattle.mr_frame.specs.Standing.{StandsAt}
 use Rattle.mr_frame.specs.Switches.{switched}
 use Rattle.mr_frame.proofs.Statements.{changes}
-use Rattle.mr_frame.specs.Steps.{FramePlan, dead, frame_plan, live, next, plan_at, plan_due}
+use Rattle.mr_frame.specs.Steps.{dead, frame_plan, live, next, plan_at, plan_due}
 use Rattle.mr_frame.proofs.ChangeRuns.{left, makes_change}
 use Rattle.mr_frame.proofs.Frames.{site_is}
 use Rattle.mr_plan.proofs.SafetyLaws.{on_itself}

@@ -151,9 +151,12 @@ enter number (Some fn) vs picks = enter_at number fn (kept_types fn) vs picks
 abbrev pub calling : Stack → Site → Pointer → Frame → Stack
 calling s site place new = with_top s (record site.frame { call = Some place } ∷ site.below) new
 
+-- what a step finds out by reading, before it needs a pick
+abbrev pub FramePlan : Type 0
+FramePlan = ReadScript (Plan (MemoryScript Onward))
+
 -- the plan of a call of a function with these types: 118 where those that are given differ
-abbrev pub call_plan : Stack → Site → Pointer → ℕ → Function → List Val → Option (List Ty × List Ty)
-    → ReadScript (Plan (MemoryScript Onward))
+abbrev pub call_plan : Stack → Site → Pointer → ℕ → Function → List Val → Option (List Ty × List Ty) → FramePlan
 call_plan s site place number fn vs None = IllFormed
 call_plan s site place number fn vs (Some types) =
     if same_types types.0 types.1
@@ -165,21 +168,19 @@ call_plan s site place number fn vs (Some types) =
     else Undefined (plainly SignatureMismatch)
 
 -- the call of the function of this number, which is to be there
-abbrev pub call_function : Look → Stack → Site → Option (List Ty) → Pointer → List Val → ℕ → Option Function
-    → ReadScript (Plan (MemoryScript Onward))
+abbrev pub call_function : Look → Stack → Site → Option (List Ty) → Pointer → List Val → ℕ → Option Function → FramePlan
 call_function look s site given place vs number None = IllFormed
 call_function look s site given place vs number (Some fn) =
     call_plan s site place number fn vs (both_there given (kept_types fn))
 
 -- the call of a function of the program; what has no number is none
-abbrev pub call_number : Look → Stack → Site → Option (List Ty) → Pointer → List Val → Option ℕ
-    → ReadScript (Plan (MemoryScript Onward))
+abbrev pub call_number : Look → Stack → Site → Option (List Ty) → Pointer → List Val → Option ℕ → FramePlan
 call_number look s site given place vs None = Undefined (plainly NotAFunction)
 call_number look s site given place vs (Some number) =
     call_function look s site given place vs number (slice_get look.program.functions number)
 
 -- `call`: the place for the result, the callee, the arguments; then 117, 118; then the callee's frame
-abbrev pub call : Look → Stack → Site → Value → List Value → Place → ReadScript (Plan (MemoryScript Onward))
+abbrev pub call : Look → Stack → Site → Value → List Value → Place → FramePlan
 call look s site callee args place =
     let here = scene_in look site.function site.frame in do
       p ← place_script here place

@@ -15,18 +15,13 @@ use Rattle.mr_layout.specs.Sizes.{align_of, size_of}
 use Rattle.mr_sched.specs.declared.schedule.Ask.TheVariants.{Address}
 use Rattle.mr_base.specs.Script.{Done, Undefined, IllFormed, Ask as Asks, ◌>>=◌}
 use Rattle.mr_eval.specs.MemoryQueries.{Allocate, MemoryScript, reading_part}
-use Rattle.mr_eval.specs.Reads.{ReadScript}
-use Rattle.mr_plan.specs.Machine.{Plan, CreatesNothing}
-use Rattle.mr_frame.specs.Calls.{call, goes_to, resume, return_from, stop, unwind}
+use Rattle.mr_plan.specs.Machine.{CreatesNothing}
+use Rattle.mr_frame.specs.Calls.{FramePlan, call, goes_to, resume, return_from, stop, unwind}
 use Rattle.mr_frame.specs.Changes.{change, free_storage}
 use Rattle.mr_frame.specs.Frames.{Frame, Look, Stack, Onward, GoesOn, Exits, Aborts, behind_stmt, scene_in}
 use Rattle.mr_frame.specs.Frames.{with_storage, with_top}
 use Rattle.mr_frame.specs.Sites.{Due, AtStatement, AtTerminator, Site, due_of, site_of}
 use Rattle.mr_frame.specs.Switches.{switched}
-
--- what a step finds out by reading, before it needs a pick
-abbrev pub FramePlan : Type 0
-FramePlan = ReadScript (Plan (MemoryScript Onward))
 
 -- a step that creates nothing and needs no pick
 abbrev pub plain : MemoryScript Onward → FramePlan

@@ -46,7 +46,8 @@ use Rattle.std.specs.Prelude.{◌++◌, if◌then◌else◌}
 use Rattle.mr_ast.specs.declared.rule.Rule.{Rule}
 use Rattle.mr_typing.specs.Broken.{Rules}
 use Rattle.mr_frame.specs.Sites.{Site, none_broken, site_of}
-use Rattle.mr_frame.specs.Steps.{FramePlan, plan_at}
+use Rattle.mr_frame.specs.Calls.{FramePlan}
+use Rattle.mr_frame.specs.Steps.{plan_at}
 use Rattle.mr_frame.specs.Sites as sites
 use Rattle.mr_frame.specs.Steps as steps
 use Rattle.mr_plan.specs.Legal.{Fault, fault, picks_fault}

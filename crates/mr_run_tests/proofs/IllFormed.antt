@@ -47,7 +47,8 @@ use Rattle.mr_frame.specs.Operations.{do_at}
 use Rattle.mr_frame.specs.Sites as sites
 use Rattle.mr_frame.specs.Sites.{Site, broken_at, broken_in_head, none_broken, site_of}
 use Rattle.mr_frame.specs.Steps as steps
-use Rattle.mr_frame.specs.Steps.{FramePlan, plan_at}
+use Rattle.mr_frame.specs.Calls.{FramePlan}
+use Rattle.mr_frame.specs.Steps.{plan_at}
 use Rattle.mr_start.specs.Steps.{Own, TurnPlan, in_step, own_step, reads, step_due, thread_step}
 use Rattle.mr_start.specs.Start.{look_of, start_config, start_memory}
 use Rattle.mr_run_tests.proofs.Examples.{block, function, program, result}

@@ -19,7 +19,8 @@ use Rattle.mr_start.specs.declared.beginning.StartFault.TheVariants as refused
 use Rattle.mr_start.specs.declared.pieces.Piece.{Piece as Made}
 use Rattle.mr_start.specs.declared.placing.Begun.{Begun}
 use Rattle.mr_start.specs.Begin.{BeginAnswer, IsBegun, IsPlaced, IsPossible, JudgeAnswer, before_frame, first_placed, piece_of, pieces_fault, return_pointer, standing}
-use Rattle.mr_start.specs.Start.{Piece, look_of, main_thread, pieces, start_config, start_fault, start_frame, start_memory, start_placed}
+use Rattle.mr_start.specs.Steps.{new_thread}
+use Rattle.mr_start.specs.Start.{Piece, look_of, pieces, start_config, start_fault, start_frame, start_memory, start_placed}
 use Rattle.mr_start.proofs.Entering.{can_begin, entered_is_start, first_length, front_is_legal, functions_are, functions_many, globals_are, globals_many, picks_are, pieces_are}
 use Rattle.mr_start.proofs.StartFacts.{all_behind, pieces_possible}
 
@@ -60,7 +61,7 @@ module _ (look : KeptLook) (ready : IsReady look) (picks : List ℕ) (legal : st
         (subst (λ ks. CanBegin look p.start.0 [] ks ((first_placed p picks).memory, start_tally 0 (before_frame p))) rests (can_begin p ready.well picks legal look ready refl)))
 
     pub main_entered : (stack : Stack) (u : World) → IsBottom (entered start (slice_get p.functions start) [] (take (length picks - made) (drop made picks)) w) stack u
-        → (stack ≡ (main_thread (start_frame p (return_pointer p picks))).stack) × (u.0 ≡ (start_placed p picks).memory) × (u.1.count ≡ length (pieces p))
+        → (stack ≡ (new_thread 0 (start_frame p (return_pointer p picks))).stack) × (u.0 ≡ (start_placed p picks).memory) × (u.1.count ≡ length (pieces p))
     main_entered stack u bottom =
         entered_is_start p ready.well picks legal _ stack u (λ i. entered (start_is i) (slice_get p.functions (start_is i)) [] (sym rests i) (sym worlds i)) bottom
 
@@ -128,7 +129,7 @@ module _ (p : Program) (well : WellFormed p) (picks : List ℕ) (legal : start_f
   many_globals = ap (λ ps. length (drop (length p.functions) ps)) same ∙ globals_many p well picks legal
 
 -- where the machine stands, from what is made of it
-pub config_is : (p : Program) (picks : List ℕ) (m : Memory) (stack : Stack) (count : ℕ) → m ≡ start_memory p picks → stack ≡ (main_thread (start_frame p (return_pointer p picks))).stack → count ≡ length (pieces p)
+pub config_is : (p : Program) (picks : List ℕ) (m : Memory) (stack : Stack) (count : ℕ) → m ≡ start_memory p picks → stack ≡ (new_thread 0 (start_frame p (return_pointer p picks))).stack → count ≡ length (pieces p)
     → standing m stack count ≡ start_config p picks
 unfolding start_config
 config_is p picks m stack count memory is many = λ i. standing (memory i) (is i) (many i)

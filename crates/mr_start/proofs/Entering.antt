@@ -34,7 +34,8 @@ use Rattle.mr_frame.specs.Standing.{IsUncounted}
 use Rattle.mr_frame.proofs.BeginLaws.{entered_is, none_stored}
 use Rattle.mr_frame.proofs.Frames.{function_keeps}
 use Rattle.mr_start.specs.Begin.{before_frame, fault_over, first_placed, own_id, pieces_fault, return_pointer}
-use Rattle.mr_start.specs.Start.{Piece, Placed, ask_of, function_piece, global_piece, look_of, main_thread, pieces, placed, return_piece, start_fault, start_frame, start_locals, start_placed}
+use Rattle.mr_start.specs.Steps.{new_thread}
+use Rattle.mr_start.specs.Start.{Piece, Placed, ask_of, function_piece, global_piece, look_of, pieces, placed, return_piece, start_fault, start_frame, start_locals, start_placed}
 use Rattle.mr_start.proofs.PlacedLaws.{InTwo, in_two}
 use Rattle.mr_start.proofs.StartFacts.{HasMain, has_main, no_argument, pieces_length, pointers_length, return_is}
 use Rattle.mr_start.proofs.StartStores.{AreCounted, none_counted, placed_counted}
@@ -197,7 +198,7 @@ module _ (p : Program) (well : WellFormed p) (picks : List ℕ) (legal : start_f
 
   -- WHAT THE ENTRY LEAVES
   pub entered_is_start : (o : Outcome Frame World) (stack : Stack) (w : World) → o ≡ entered p.start.0 (slice_get p.functions p.start.0) [] (drop n picks) world → IsBottom o stack w
-      → (stack ≡ (main_thread (start_frame p (return_pointer p picks))).stack) × (w.0 ≡ (start_placed p picks).memory) × (w.1.count ≡ length (pieces p))
+      → (stack ≡ (new_thread 0 (start_frame p (return_pointer p picks))).stack) × (w.0 ≡ (start_placed p picks).memory) × (w.1.count ≡ length (pieces p))
   entered_is_start o stack w is bottom =
       let same = sym frame_is ∙ sym is ∙ bottom.went in
       let state = same_state same in (

@@ -19,10 +19,10 @@ use Rattle.mr_frame.proofs.PlanStorageRuns.{set_cases}
 use Rattle.mr_frame.specs.Fits.{IsLook}
 use Rattle.mr_frame.specs.Storage.{slot_of, slots_in, slots_with}
 use Rattle.mr_start.specs.SoundState.{FitsStatus, IsSoundConfig, SoundState, thread_slots}
-use Rattle.mr_start.specs.Steps.{Own}
+use Rattle.mr_start.specs.Steps.{Own, new_thread}
 use Rattle.mr_start.proofs.RunSound.{never_ill_formed}
 use Rattle.mr_start.specs.Runs.{IsSoundRun, Legal}
-use Rattle.mr_start.specs.Start.{Piece, look_of, main_thread, pieces, start_config, start_fault, start_frame, start_locals, start_memory, start_placed}
+use Rattle.mr_start.specs.Start.{Piece, look_of, pieces, start_config, start_fault, start_frame, start_locals, start_memory, start_placed}
 use Rattle.mr_start.proofs.StartFacts.{HasMain, functions_length, globals_length, has_main, return_is, start_fits}
 use Rattle.mr_start.proofs.StartStores.{AllLie, Lies, start_kept}
 use Rattle.mr_base.proofs.Lists.{slice_get-drop}
@@ -109,7 +109,7 @@ module _ (p : Program) (well : WellFormed p) (picks : List ℕ) (legal : start_f
       )
 
   abbrev thread : Thread Own
-  thread = thread_of (main_thread (start_frame p (Some returned.0))) (length (pieces p))
+  thread = thread_of (new_thread 0 (start_frame p (Some returned.0))) (length (pieces p))
 
   abbrev state : State Own
   state = record { shared = record { memory = memory; statuses = Enabled ∷ []; holders = [] }; threads = thread ∷ [] }
@@ -151,7 +151,7 @@ module _ (p : Program) (well : WellFormed p) (picks : List ℕ) (legal : start_f
   unfolding start_config
   start_sound s e =
       subst (SoundState p)
-      ((λ i. record { shared = record { memory = memory; statuses = Enabled ∷ []; holders = [] }; threads = thread_of (main_thread (start_frame p (sym returned.1 i))) (length (pieces p)) ∷ [] })
+      ((λ i. record { shared = record { memory = memory; statuses = Enabled ∷ []; holders = [] }; threads = thread_of (new_thread 0 (start_frame p (sym returned.1 i))) (length (pieces p)) ∷ [] })
       ∙ same_Some _ s e) state_sound
 
   pub start_look : IsLook (look_of p picks)

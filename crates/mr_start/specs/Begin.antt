@@ -16,7 +16,7 @@ use Rattle.mr_frame.specs.PlanMachine.{thread_of}
 use Rattle.mr_frame.specs.PlanRuns.{Config}
 use Rattle.mr_frame.specs.Frames.{Look, Stack}
 use Rattle.mr_frame.specs.Kept.{stack_of}
-use Rattle.mr_start.specs.Steps.{Own}
+use Rattle.mr_start.specs.Steps.{Own, new_thread}
 use Rattle.mr_start.specs.declared.beginning.Entered.{Entered}
 use Rattle.mr_start.specs.declared.beginning.Start.{Start}
 use Rattle.mr_start.specs.declared.beginning.StartFault.{StartFault}
@@ -24,7 +24,7 @@ use Rattle.mr_start.specs.declared.beginning.StartFault.TheVariants as refused
 use Rattle.mr_start.specs.declared.pieces.Piece.{Piece as Made}
 use Rattle.mr_start.specs.declared.placing.Begun.{Begun}
 use Rattle.mr_start.specs.Judging.{fault_of}
-use Rattle.mr_start.specs.Start.{Piece, Placed, ask_of, look_of, main_thread, pieces, placed, start_config, start_fault}
+use Rattle.mr_start.specs.Start.{Piece, Placed, ask_of, look_of, pieces, placed, start_config, start_fault}
 use Rattle.mr_start.specs.Start.{start_frame, start_placed}
 
 -- a piece as the code has it
@@ -82,7 +82,7 @@ return_pointer p picks = slice_get (start_placed p picks).pointers (before_frame
 -- the main function is entered, behind all allocations
 pub record IsEntered (p : Program) (picks : List ℕ) (e : Entered) : Type 0 where
   pub memory : e.memory ≡ (start_placed p picks).memory
-  pub stack : stack_of e.stack ≡ (main_thread (start_frame p (return_pointer p picks))).stack
+  pub stack : stack_of e.stack ≡ (new_thread 0 (start_frame p (return_pointer p picks))).stack
   pub count : e.count ≡ length (pieces p)
 
 -- where a machine stands before the first entry, with this memory, this stack of thread 0 and so many allocations of it

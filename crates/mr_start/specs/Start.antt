@@ -31,7 +31,7 @@ use Rattle.mr_frame.specs.PlanMachine.{thread_of}
 use Rattle.mr_frame.specs.PlanLegal.{Fault, picks_fault}
 use Rattle.mr_frame.specs.PlanRuns.{Config}
 use Rattle.mr_frame.specs.Frames.{Frame, Look}
-use Rattle.mr_start.specs.Steps.{Own}
+use Rattle.mr_start.specs.Steps.{Own, new_thread}
 
 -- ---- what the start allocates
 
@@ -170,10 +170,6 @@ start_frame p ret = record {
   call = None;
 }
 
--- thread 0 at work in one frame
-abbrev pub main_thread : Frame → Own
-main_thread f = record { thread = 0; stack = record { frames = f ∷ []; payloads = [] } }
-
 -- where the machine stands before the first entry
 unfoldable pub start_config : Program → List ℕ → Config Own
 start_config p picks =
@@ -182,7 +178,7 @@ start_config p picks =
       state = Some (record {
         shared = record { memory = start_memory p picks; statuses = Enabled ∷ []; holders = [] };
         threads = thread_of
-            (main_thread (start_frame p (slice_get made.pointers (length p.functions + length p.globals))))
+            (new_thread 0 (start_frame p (slice_get made.pointers (length p.functions + length p.globals))))
             (length (pieces p)) ∷ [];
       });
       output = [];

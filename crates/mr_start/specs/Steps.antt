@@ -76,13 +76,9 @@ abbrev pub last_payload : List Pointer → Operation
 last_payload [] = Undefined (plainly NoPayload)
 last_payload (p ∷ payloads) = instant (Done (Some (val.Ptr p)))
 
--- the types of the return local and of the argument of a thread's function
-abbrev pub unit : Ty
-unit = ty.Tuple 0 1 []
-
--- the types of what a thread's function keeps: its result and its argument
+-- the types of what a thread's function keeps: its result, which is the empty tuple, and its argument
 abbrev pub thread_types : List Ty
-thread_types = unit ∷ ty.Raw ∷ []
+thread_types = ty.Tuple 0 1 [] ∷ ty.Raw ∷ []
 
 -- a new thread, in the frame of its function
 abbrev pub new_thread : ℕ → Frame → Own

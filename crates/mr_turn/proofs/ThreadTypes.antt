@@ -9,7 +9,7 @@ use Rattle.mr_ast.specs.declared.types.Ty.{Ty}
 use Rattle.mr_ast.specs.declared.types.Ty.TheVariants as ty
 use Rattle.mr_typing.specs.SameTypes.{same_type}
 use Rattle.mr_frame.specs.Calls.{all_there, both_there, kept_types, local_type, same_types}
-use Rattle.mr_start.specs.Steps.{thread_types, unit}
+use Rattle.mr_start.specs.Steps.{thread_types}
 
 -- ---- as many types as there are
 
@@ -34,6 +34,6 @@ other_types fn types other e = by_types types (all_length (map (local_type fn) (
   where
     by_types : (types : List Ty) → length types ≡ suc (length fn.args) → same_types thread_types types ≡ false
     by_types [] h = refl
-    by_types (t ∷ []) h = last_false (same_type unit t)
+    by_types (t ∷ []) h = last_false (same_type (ty.Tuple 0 1 []) t)
     by_types (t ∷ u ∷ []) h = absurd (other (omega arith))
-    by_types (t ∷ u ∷ v ∷ rest) h = ap (λ b. same_type unit t && b) (last_false (same_type ty.Raw u)) ∙ last_false (same_type unit t)
+    by_types (t ∷ u ∷ v ∷ rest) h = ap (λ b. same_type (ty.Tuple 0 1 []) t && b) (last_false (same_type ty.Raw u)) ∙ last_false (same_type (ty.Tuple 0 1 []) t)

@@ -10,7 +10,8 @@ use Rattle.mr_sched.specs.declared.schedule.Entry.{Entry}
 use Rattle.mr_sched.specs.declared.schedule.Schedule.{Schedule}
 use Rattle.mr_witness.specs.TypingWalk.{WellFormed}
 use Rattle.mr_exchange.specs.StartRuns.{Legal, steps_of}
-use Rattle.mr_exchange.specs.Witness.{entry_at, no_entry}
+use Rattle.mr_sched.specs.Versions.{no_entry}
+use Rattle.mr_exchange.specs.Witness.{entry_at}
 use Rattle.mr_witness.specs.EveryOrder.{ComesToTheSame, reordered}
 use Rattle.mr_witness.specs.Shuffled.{shuffled, shuffled_order}
 use Rattle.mr_witness.proofs.Drawn.{shuffled_rearranged, shuffled_within}
