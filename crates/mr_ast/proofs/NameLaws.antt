@@ -1,5 +1,6 @@
 -- Texts that are held by hash, as a list of texts, and what follows from adding one.
-use Rattle.std.proofs.Common.{◌≡◌, ◌≢◌, ℕ, zero, suc, ◌<◌, Bool, true, false, List, [], ◌∷◌, ◌++◌, length, map, get_or, slice_get, position, Some, refl, sym, ap, subst, ◌∙◌, true≢false, arith, ◌⊎◌, inl, inr, String, if◌then◌else◌}
+use Rattle.mr_ast.proofs.Common.{◌≡◌, ◌≢◌, ℕ, zero, suc, ◌<◌, Bool, true, false, List, [], ◌∷◌, ◌++◌, length, map, get_or, slice_get, Some, refl, sym, ap, subst, ◌∙◌, true≢false, arith, inl, inr, if◌then◌else◌}
+use Rattle.std.proofs.Common.{position, ◌⊎◌, String}
 use Rattle.std.proofs.lemmas.List.Quantifiers.{position-Some}
 use Rattle.std.proofs.lemmas.Bool.{or_from, or_parts}
 use Rattle.std.proofs.lemmas.List.{map-append}

@@ -1,18 +1,10 @@
 -- The kinds of trees and the heads of types, one equation for each kind, and which trees and types have a kind.
-use Rattle.std.proofs.Common.{◌≡◌, ℕ, ◌<◌, Bool, List, sym, ap, subst, ◌∙◌, arith}
-use Rattle.mr_ast.specs.declared.types.IntType.{IntType}
-use Rattle.mr_ast.specs.declared.types.Num.{Num}
-use Rattle.mr_ast.specs.declared.types.Tree.{Tree, roll-Tree, out-Tree, out-roll-Tree}
+use Rattle.mr_ast.proofs.Common.{◌≡◌, ℕ, ◌<◌, Bool, List, sym, ap, subst, ◌∙◌, arith, IntType, Num, Tree, roll-Tree, Tree-F, ind-Tree, Ty, roll-Ty, Ty-F, ind-Ty, Variant, Head, int_number, truth_number, tree_kind, head_with, head_of}
+use Rattle.mr_ast.specs.declared.types.Tree.{out-Tree, out-roll-Tree}
+use Rattle.mr_ast.specs.declared.types.Ty.{out-Ty, out-roll-Ty}
+use Rattle.mr_ast.specs.Order.{tree_kind_layer, head_layer}
 use Rattle.mr_ast.specs.declared.types.Tree.TheVariants as tree
-use Rattle.mr_ast.specs.declared.types.Tree.TheOpen.{Tree-F}
-use Rattle.mr_ast.specs.declared.types.Tree.TheFolds.{ind-Tree}
-use Rattle.mr_ast.specs.declared.types.Ty.{Ty, roll-Ty, out-Ty, out-roll-Ty}
 use Rattle.mr_ast.specs.declared.types.Ty.TheVariants as ty
-use Rattle.mr_ast.specs.declared.types.Ty.TheOpen.{Ty-F}
-use Rattle.mr_ast.specs.declared.types.Ty.TheFolds.{ind-Ty}
-use Rattle.mr_ast.specs.declared.types.Variant.{Variant}
-use Rattle.mr_ast.specs.declared.order.Head.{Head}
-use Rattle.mr_ast.specs.Order.{int_number, truth_number, tree_kind_layer, tree_kind, head_with, head_layer, head_of}
 
 -- ---- trees
 

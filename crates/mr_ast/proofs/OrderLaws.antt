@@ -1,18 +1,12 @@
 -- The laws of the order of types, and what trees and types are in it, part by part.
-use Rattle.std.proofs.Common.{◌≡◌, ◌↔◌, ℕ, ◌<◌, true, false, List, [], ◌∷◌, ◌++◌, drop, Ordering, Less, Equal, Greater, nat_cmp, refl, sym, ap, ap₂, subst, ◌∙◌}
-use Rattle.std.specs.Ordering.{is_ne, ordering_then}
+use Rattle.mr_ast.proofs.Common.{◌≡◌, ℕ, ◌<◌, true, false, List, [], ◌∷◌, ◌++◌, drop, Ordering, Less, Equal, Greater, nat_cmp, refl, sym, ap, ap₂, subst, ◌∙◌, is_ne, ordering_then, IntType, Num, Tree, Ty, Variant, Head, int_number, truth_number, num_row, chunk_row, tag_row, list_row, row_of_tree, head_with, head_row, row_of_type, row_cmp, tree_cmp, ty_cmp, tree_kind, tree_parts_cmp, head_of, parts_cmp, chunk_cmp, tag_cmp, list_cmp, case_cmp, field_cmp, variant_cmp}
+use Rattle.std.proofs.Common.{◌↔◌}
 use Rattle.std.specs.Cmp.{IsTotalOrder}
 use Rattle.std.proofs.lemmas.Cmp.{on_total, tied_itself}
-use Rattle.mr_ast.specs.declared.types.IntType.{IntType}
-use Rattle.mr_ast.specs.declared.types.Num.{Num}
 use Rattle.mr_ast.specs.declared.types.Tag.{Tag}
-use Rattle.mr_ast.specs.declared.types.Tree.{Tree}
+use Rattle.mr_ast.specs.Order.{head_cmp, int_type_cmp, num_cmp}
 use Rattle.mr_ast.specs.declared.types.Tree.TheVariants as tree
-use Rattle.mr_ast.specs.declared.types.Ty.{Ty}
 use Rattle.mr_ast.specs.declared.types.Ty.TheVariants as ty
-use Rattle.mr_ast.specs.declared.types.Variant.{Variant}
-use Rattle.mr_ast.specs.declared.order.Head.{Head}
-use Rattle.mr_ast.specs.Order.{int_number, truth_number, num_row, chunk_row, tag_row, list_row, row_of_tree, head_with, head_row, row_of_type, row_cmp, tree_cmp, ty_cmp, tree_kind, tree_parts_cmp, head_of, parts_cmp, head_cmp, int_type_cmp, num_cmp, chunk_cmp, tag_cmp, list_cmp, case_cmp, field_cmp, variant_cmp}
 use Rattle.mr_ast.proofs.OrderHeads.{tree_kind_invalid, as_invalid}
 use Rattle.mr_ast.proofs.OrderRows.{case_item, row_known, row_invalid, row_branch, tree_row_is, field_item, variant_item, row_tuple, row_array, row_union, row_enum, type_row_is, nothing_behind}
 use Rattle.mr_ast.proofs.OrderUnique.{each_unique, list_unique, unique_chunk, unique_tag, unique_case, unique_tree, unique_field, unique_variant, unique_type, same_row}

@@ -1,19 +1,9 @@
 -- The rows of numbers that trees and types are written as, one equation for each kind.
-use Rattle.std.proofs.Common.{◌≡◌, ℕ, ◌<◌, ◌≤◌, Bool, List, [], ◌∷◌, ◌++◌, map, drop, refl, sym, ap, ap₂, ◌∙◌, arith}
+use Rattle.mr_ast.proofs.Common.{◌≡◌, ℕ, ◌<◌, ◌≤◌, Bool, List, [], ◌∷◌, ◌++◌, map, drop, refl, sym, ap, ap₂, ◌∙◌, arith, IntType, Num, Tree, Tree-F, fold-roll-Tree, Ty, roll-Ty, Ty-F, map-Ty, fold-Variant, fold-roll-Ty, fold-roll-Variant, Variant, out-Variant, Head, int_number, truth_number, num_row, chunk_row, tag_row, list_row, row_of_tree, tree_kind, head_with, head_row, row_of_type, head_of}
 use Rattle.std.proofs.lemmas.List.{length-map}
-use Rattle.mr_ast.specs.declared.types.IntType.{IntType}
-use Rattle.mr_ast.specs.declared.types.Num.{Num}
-use Rattle.mr_ast.specs.declared.types.Tree.{Tree}
+use Rattle.mr_ast.specs.Order.{case_row, tree_row_step, field_row, type_row_step, variant_row_step}
 use Rattle.mr_ast.specs.declared.types.Tree.TheVariants as tree
-use Rattle.mr_ast.specs.declared.types.Tree.TheOpen.{Tree-F}
-use Rattle.mr_ast.specs.declared.types.Tree.TheFolds.{fold-roll-Tree}
-use Rattle.mr_ast.specs.declared.types.Ty.{Ty, roll-Ty}
 use Rattle.mr_ast.specs.declared.types.Ty.TheVariants as ty
-use Rattle.mr_ast.specs.declared.types.Ty.TheOpen.{Ty-F}
-use Rattle.mr_ast.specs.declared.types.Ty.TheFolds.{map-Ty, fold-Variant, fold-roll-Ty, fold-roll-Variant}
-use Rattle.mr_ast.specs.declared.types.Variant.{Variant, out-Variant}
-use Rattle.mr_ast.specs.declared.order.Head.{Head}
-use Rattle.mr_ast.specs.Order.{int_number, truth_number, num_row, chunk_row, tag_row, list_row, case_row, tree_row_step, row_of_tree, tree_kind, head_with, head_row, field_row, type_row_step, variant_row_step, row_of_type, head_of}
 use Rattle.mr_ast.proofs.CanonTypeLaws.{flat_map-map}
 use Rattle.mr_ast.proofs.TreeInduction.{TreeCases, tree_induction}
 use Rattle.mr_ast.proofs.TypeInduction.{TypeCases, type_induction}

@@ -1,11 +1,9 @@
 -- How rows stand to each other that are made of rows, one behind another.
-use Rattle.std.proofs.Common.{◌≡◌, ℕ, true, false, List, [], ◌∷◌, ◌++◌, length, Ordering, Less, Equal, Greater, nat_cmp, refl, sym, ap, ap₂, ◌∙◌, append-nil, arith}
-use Rattle.std.specs.Prelude.{flat_map}
-use Rattle.std.specs.Ordering.{is_ne, ordering_then}
+use Rattle.mr_ast.proofs.Common.{◌≡◌, ℕ, true, false, List, [], ◌∷◌, ◌++◌, length, Ordering, Less, Equal, Greater, nat_cmp, refl, sym, ap, ap₂, ◌∙◌, arith, flat_map, is_ne, ordering_then, list_row, row_cmp, list_cmp}
+use Rattle.std.proofs.Common.{append-nil}
 use Rattle.std.specs.Cmp.{IsTotalOrder}
 use Rattle.std.specs.Cmp.Lexicographic.{slice_cmp}
 use Rattle.std.proofs.lemmas.Cmp.{ranked, nat_list_cmp_total}
-use Rattle.mr_ast.specs.Order.{list_row, row_cmp, list_cmp}
 use Rattle.mr_ast.proofs.OrderUnique.{Unique}
 
 abbrev Row : Type 0

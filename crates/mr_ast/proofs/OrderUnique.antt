@@ -1,17 +1,11 @@
 -- A row tells what it is the row of, also where more numbers stand behind it.
-use Rattle.std.proofs.Common.{◌≡◌, ℕ, Bool, true, false, List, [], ◌∷◌, ◌++◌, length, get_or, drop, refl, sym, ap, ap₂, ◌∙◌, append_assoc, arith}
-use Rattle.std.specs.Prelude.{flat_map, if◌then◌else◌, ◌==◌}
-use Rattle.mr_ast.specs.declared.types.IntType.{IntType}
-use Rattle.mr_ast.specs.declared.types.IntType.TheVariants.{U8, U16, U32, U64, U128, I8, I16, I32, I64, I128}
-use Rattle.mr_ast.specs.declared.types.Num.{Num}
+use Rattle.mr_ast.proofs.Common.{◌≡◌, ℕ, Bool, true, false, List, [], ◌∷◌, ◌++◌, length, get_or, drop, refl, sym, ap, ap₂, ◌∙◌, arith, flat_map, if◌then◌else◌, IntType, U8, U64, I8, Num, Tree, Ty, Variant, Head, int_number, truth_number, num_row, chunk_row, tag_row, list_row, row_of_tree, tree_kind, head_with, row_of_type, head_of}
+use Rattle.std.proofs.Common.{append_assoc}
+use Rattle.std.specs.Prelude.{◌==◌}
+use Rattle.mr_ast.specs.declared.types.IntType.TheVariants.{U16, U32, U128, I16, I32, I64, I128}
 use Rattle.mr_ast.specs.declared.types.Tag.{Tag}
-use Rattle.mr_ast.specs.declared.types.Tree.{Tree}
 use Rattle.mr_ast.specs.declared.types.Tree.TheVariants as tree
-use Rattle.mr_ast.specs.declared.types.Ty.{Ty}
 use Rattle.mr_ast.specs.declared.types.Ty.TheVariants as ty
-use Rattle.mr_ast.specs.declared.types.Variant.{Variant}
-use Rattle.mr_ast.specs.declared.order.Head.{Head}
-use Rattle.mr_ast.specs.Order.{int_number, truth_number, num_row, chunk_row, tag_row, list_row, row_of_tree, tree_kind, head_with, row_of_type, head_of}
 use Rattle.mr_ast.proofs.TreeInduction.{AllCases, TreeCases, tree_induction}
 use Rattle.mr_ast.proofs.TypeInduction.{AllFields, AllVariants, TypeCases, type_induction}
 use Rattle.mr_ast.proofs.OrderHeads.{tree_kind_known, tree_kind_invalid, tree_kind_branch, as_known, as_invalid, as_branch, head_int, head_bool, head_raw, head_fn_ptr, head_ref, head_tuple, head_array, head_union, head_enum, as_int, as_bool, as_raw, as_fn_ptr, as_ref, as_tuple, as_array, as_union, as_enum}

@@ -1,11 +1,7 @@
 -- Induction over trees, one case for each kind.
-use Rattle.std.proofs.Common.{ℕ, List, [], ◌∷◌, map, sym, subst}
-use Rattle.mr_ast.specs.declared.types.IntType.{IntType}
-use Rattle.mr_ast.specs.declared.types.Num.{Num}
-use Rattle.mr_ast.specs.declared.types.Tree.{Tree, roll-Tree}
+use Rattle.mr_ast.proofs.Common.{ℕ, List, [], ◌∷◌, map, sym, subst, IntType, Num, Tree, roll-Tree, Tree-F, ind-Tree}
+use Rattle.mr_ast.specs.declared.types.Tree.TheFolds.{map-Tree}
 use Rattle.mr_ast.specs.declared.types.Tree.TheVariants as tree
-use Rattle.mr_ast.specs.declared.types.Tree.TheOpen.{Tree-F}
-use Rattle.mr_ast.specs.declared.types.Tree.TheFolds.{map-Tree, ind-Tree}
 
 -- the tree of each case has the property
 abbrev pub AllCases : (Tree → Type 0) → List (Num × Tree) → Type 0

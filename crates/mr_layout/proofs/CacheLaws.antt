@@ -1,22 +1,18 @@
 -- Types that are kept with their layouts, each once, in the order of types.
-use Rattle.std.proofs.Common.{◌≡◌, ◌↔◌, ℕ, ◌+◌, ◌-◌, ◌<◌, ◌≤◌, ⊎_elim, Bool, List, [], ◌∷◌, ◌++◌, map, length, get_or, Some, None, Result, Ok, Err, Ordering, Less, Equal, Greater, false, IsTrue, inr, refl, sym, ap, ap₂, subst, ◌∙◌, true≢false, Bor, take, arith}
-use Rattle.std.specs.Prelude.{All, Contains, IfNone, IfSome, slice_get, ◌≢◌}
-use Rattle.std.specs.List.Sorted.{IsPermutation, IsSorted, IsSortedBy, IsNonDecreasingBy, IsBinarySearchResult, IsSearchInRange}
+use Rattle.mr_layout.proofs.Common.{◌≡◌, ℕ, ◌+◌, ◌-◌, ◌<◌, ◌≤◌, ⊎_elim, Bool, List, [], ◌∷◌, ◌++◌, map, length, get_or, Some, None, Result, Ok, Err, false, inr, refl, sym, ap, ap₂, subst, ◌∙◌, true≢false, Bor, take, arith, All, Contains, IfSome, IsPermutation, IsNonDecreasingBy, get_or-take, take_all, cases_lt, All-permutation, ranks_by, Ty, ty_cmp, TypeOk, AreTypesOf, Adds}
+use Rattle.std.proofs.Common.{◌↔◌, Ordering, Less, Equal, Greater, IsTrue}
+use Rattle.std.specs.Prelude.{IfNone, slice_get, ◌≢◌}
+use Rattle.std.specs.List.Sorted.{IsSorted, IsSortedBy, IsBinarySearchResult, IsSearchInRange}
 use Rattle.std.specs.Ordering.{is_lt, ordering_index, ordering_reverse}
 use Rattle.std.specs.Result.{result_ok}
-use Rattle.std.proofs.lemmas.List.{length-map, get_or-map, get_or-take, get_or_default, length-take-le, map_push, map_more, take-map, take_all}
+use Rattle.std.proofs.lemmas.List.{length-map, get_or-map, get_or_default, length-take-le, map_push, map_more, take-map}
 use Rattle.std.proofs.lemmas.List.Elements.{All-push, All-weaker, Contains-append_left, Contains-push}
-use Rattle.std.proofs.lemmas.Bool.{cases_lt}
 use Rattle.std.proofs.lemmas.List.Quantifiers.{all_pairs_push}
-use Rattle.std.proofs.lemmas.List.Sorted.{All-permutation, Contains-permutation, IsPermutation-sym, ranks_by, searchable_from_sorted, sorted_far}
+use Rattle.std.proofs.lemmas.List.Sorted.{Contains-permutation, IsPermutation-sym, searchable_from_sorted, sorted_far}
 use Rattle.std.proofs.lemmas.Option.{get_or_from_slice_get, slice_get-get_or, slice_get_within}
-use Rattle.mr_ast.specs.declared.types.Ty.{Ty}
-use Rattle.mr_ast.specs.Order.{ty_cmp}
 use Rattle.mr_ast.proofs.OrderLaws.{same_type, ty_total, type_itself}
 use Rattle.mr_layout.specs.declared.cache.Entry.{Entry}
 use Rattle.mr_layout.specs.Layouts.{layout_of, held_types, AreRising}
-use Rattle.mr_layout.specs.TypeOk.{TypeOk}
-use Rattle.mr_layout.specs.Cached.{AreTypesOf, Adds}
 
 abbrev type_in : Entry → Ty
 type_in e = e.ty.now

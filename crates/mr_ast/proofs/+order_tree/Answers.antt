@@ -1,6 +1,4 @@
-use Rattle.std.proofs.Common.{refl, sym, ap, ap₂, ◌∙◌}
-use Rattle.std.specs.Ordering.{ordering_then}
-use Rattle.mr_ast.specs.Order.{tree_kind, tree_cmp, tree_parts_cmp, list_cmp, case_cmp}
+use Rattle.mr_ast.proofs.Common.{refl, sym, ap, ap₂, ◌∙◌, ordering_then, tree_kind, tree_cmp, tree_parts_cmp, list_cmp, case_cmp}
 use Rattle.mr_ast.proofs.OrderHeads.{tree_kind_known, tree_kind_branch, as_known, as_branch}
 use Rattle.mr_ast.proofs.OrderLaws.{tree_parts_known, tree_parts_none, tree_by_kind, tree_by_parts, at_branches, first_found, second_left}
 use Rattle.mr_ast.proofs.+order_tree.Goals as goal

@@ -1,4 +1,4 @@
-use Rattle.mr_ast.specs.Order.{case_cmp}
+use Rattle.mr_ast.proofs.Common.{case_cmp}
 use Rattle.mr_ast.proofs.OrderLoops.{AreCompared}
 use Rattle.mr_ast.proofs.+order_tree.Given as goal
 

@@ -1,6 +1,4 @@
-use Rattle.std.proofs.Common.{sym, ap, ap₂, ◌∙◌, refl}
-use Rattle.mr_ast.specs.declared.order.Head.{Head}
-use Rattle.mr_ast.specs.Order.{head_of, tree_cmp, ty_cmp, parts_cmp, list_cmp, chunk_cmp, field_cmp, variant_cmp}
+use Rattle.mr_ast.proofs.Common.{sym, ap, ap₂, ◌∙◌, refl, Head, head_of, tree_cmp, ty_cmp, parts_cmp, list_cmp, chunk_cmp, field_cmp, variant_cmp}
 use Rattle.mr_ast.proofs.OrderHeads.{head_tuple, head_array, head_union, head_enum, as_tuple, as_array, as_union, as_enum, as_flat}
 use Rattle.mr_ast.proofs.OrderLaws.{parts_tuple, parts_array, parts_union, parts_enum, parts_none, type_by_head, type_by_parts, first_found, second_left}
 use Rattle.mr_ast.proofs.+order_ty.Goals as goal

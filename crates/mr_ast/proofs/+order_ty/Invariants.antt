@@ -1,4 +1,4 @@
-use Rattle.mr_ast.specs.Order.{field_cmp, variant_cmp}
+use Rattle.mr_ast.proofs.Common.{field_cmp, variant_cmp}
 use Rattle.mr_ast.proofs.OrderLoops.{AreCompared}
 use Rattle.mr_ast.proofs.+order_ty.Given as goal
 

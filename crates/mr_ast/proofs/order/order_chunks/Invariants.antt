@@ -1,4 +1,4 @@
-use Rattle.mr_ast.specs.Order.{chunk_cmp}
+use Rattle.mr_ast.proofs.Common.{chunk_cmp}
 use Rattle.mr_ast.proofs.OrderLoops.{AreCompared}
 use Rattle.mr_ast.proofs.order.order_chunks.Given as goal
 

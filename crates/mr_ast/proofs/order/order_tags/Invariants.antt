@@ -1,4 +1,4 @@
-use Rattle.mr_ast.specs.Order.{tag_cmp}
+use Rattle.mr_ast.proofs.Common.{tag_cmp}
 use Rattle.mr_ast.proofs.OrderLoops.{AreCompared}
 use Rattle.mr_ast.proofs.order.order_tags.Given as goal
 

@@ -1,4 +1,4 @@
-use Rattle.std.proofs.Common.{sym, true≢false}
+use Rattle.mr_layout.proofs.Common.{sym, true≢false}
 use Rattle.mr_layout.proofs.CacheLaws.{last_told, none_told}
 use Rattle.mr_layout.proofs.cache.is_last.Goals as goal
 

@@ -1,6 +1,5 @@
-use Rattle.std.proofs.Common.{rules}
+use Rattle.mr_layout.proofs.Common.{rules, ty_cmp}
 use Rattle.std.proofs.lemmas.Fn.{always_returns_same}
-use Rattle.mr_ast.specs.Order.{ty_cmp}
 use Rattle.mr_layout.proofs.CacheLaws.{search_found, search_missing}
 use Rattle.mr_layout.proofs.cache.position.Goals as goal
 

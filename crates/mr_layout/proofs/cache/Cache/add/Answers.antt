@@ -1,11 +1,7 @@
-use Rattle.std.proofs.Common.{◌≡◌, ◌++◌, ◌∷◌, [], All, is_lt, sym, subst, refl, false, true≢false, List, ◌∙◌}
-use Rattle.std.specs.Prelude.{Contains}
-use Rattle.mr_ast.specs.declared.types.Ty.{Ty}
+use Rattle.mr_layout.proofs.Common.{◌≡◌, ◌++◌, ◌∷◌, [], All, is_lt, sym, subst, refl, false, true≢false, List, ◌∙◌, Contains, Ty, ty_cmp, Adds}
 use Rattle.mr_layout.specs.declared.cache.Entry.{Entry}
 use Rattle.std.proofs.lemmas.List.Elements.{All-push}
-use Rattle.mr_ast.specs.Order.{ty_cmp}
 use Rattle.mr_layout.specs.Layouts.{layout_of, held_types, AreDefined, AreIntegers, AreRising}
-use Rattle.mr_layout.specs.Cached.{Adds}
 use Rattle.mr_layout.proofs.CacheLaws.{added, rising_push}
 use Rattle.mr_layout.proofs.cache.Cache.add.Goals as goal
 

@@ -1,8 +1,4 @@
-use Rattle.std.proofs.Common.{List, subst, arith}
-use Rattle.std.specs.List.Sorted.{IsPermutation}
-use Rattle.std.proofs.lemmas.List.Sorted.{All-permutation}
-use Rattle.mr_ast.specs.declared.types.Ty.{Ty}
-use Rattle.mr_layout.specs.TypeOk.{TypeOk}
+use Rattle.mr_layout.proofs.Common.{List, subst, arith, IsPermutation, All-permutation, Ty, TypeOk}
 use Rattle.mr_layout.specs.Written.{written_types}
 use Rattle.mr_layout.proofs.CacheLaws.{ok_item, not_above, next_item, all_items}
 use Rattle.mr_layout.proofs.cache.Cache.new.Goals as goal

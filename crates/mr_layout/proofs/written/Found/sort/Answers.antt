@@ -1,8 +1,6 @@
-use Rattle.std.proofs.Common.{rules, is_lt, Bor}
-use Rattle.std.proofs.lemmas.List.Sorted.{IsPermutation-map, ranks_by}
+use Rattle.mr_layout.proofs.Common.{rules, is_lt, Bor, ranks_by, Ty, ty_cmp}
+use Rattle.std.proofs.lemmas.List.Sorted.{IsPermutation-map}
 use Rattle.std.proofs.lemmas.Fn.{always_returns_same}
-use Rattle.mr_ast.specs.declared.types.Ty.{Ty}
-use Rattle.mr_ast.specs.Order.{ty_cmp}
 use Rattle.mr_ast.proofs.OrderLaws.{ty_total}
 use Rattle.mr_layout.proofs.CacheLaws.{sorted_lent}
 use Rattle.mr_layout.proofs.written.Found.sort.Goals as goal
