@@ -31,7 +31,7 @@ pub types::Ty::order_parts-returns-in-Tuple-Tuple : goal.types::Ty::order_parts-
 types::Ty::order_parts-returns-in-Tuple-Tuple t c = λ kinds.
     let here = c.in-Tuple-Tuple in
     c.order_fields.ensures ∙ ap₂ (list_cmp field_cmp) c.as_slice.ensures c.as_slice-in-Tuple-Tuple.ensures
-    ∙ sym (ap₂ parts_cmp here.is-0 here.is-1 ∙ parts_tuple here.size-0 here.align-0 here.size-1 here.align-1 here.fields here.fields2)
+    ∙ sym (ap₂ parts_cmp here.is-0 here.is-1 ∙ parts_tuple here.size-0 here.align-0 here.size-1 here.align-1 here.fields here.others)
 
 pub types::Ty::order_parts-returns-in-Array-Array : goal.types::Ty::order_parts-returns-in-Array-Array
 types::Ty::order_parts-returns-in-Array-Array t c = λ kinds.
