@@ -36,11 +36,17 @@ impl Hash for Ty {
     }
 }
 
-// All is written in whole words of eight bytes: a hasher takes these faster than single bytes.
+fn number_of_truth(truth: bool) -> u64
+    ensures { result ≡ truth_number truth }
+{
+    if truth { 1 } else { 0 }
+}
+
+// All is written in whole words of eight bytes, which a hasher takes faster than single bytes.
 fn write_truth<H: Hasher>(truth: bool, state: &mut H)
     ensures { state.new ≡ fold H.write state.old (fed.u64 (truth_number truth)) }
 {
-    state.write_u64(if truth { 1 } else { 0 });
+    state.write_u64(number_of_truth(truth));
 }
 
 #[tactic(auto, using(crate::proofs::HashedLaws::type_laws))]

@@ -63,7 +63,7 @@ lookup_found (e ∷ entries) t l defined found =
     by true told rest =
         let same : type_in e ≡ t = sym ((equal_types_decides t (type_in e)).0 told) in
         let here : e.1 ≡ l = same_Some e.1 l (past true told) in (
-          subst (λ (u : Ty). Contains (held_types (e ∷ entries)) u) same (Contains-get_or (held_types (e ∷ entries)) 0 (type_in e) (omega arith)),
+          subst (Contains (type_in e ∷ held_types entries)) same (Contains-get_or (type_in e ∷ held_types entries) 0 (type_in e) (omega arith)),
           sym here ∙ All-head (λ (x : Entry). x.1 ≡ layout_of (type_in x)) e entries defined ∙ ap layout_of same,
         )
     by false told rest =
