@@ -1,8 +1,8 @@
--- Induction over trees, one case for each kind.
-use Rattle.std.proofs.Common.{ℕ, List, [], ◌∷◌, map, sym, subst}
+-- Induction over trees, one case for each kind, and what a tree is made of.
+use Rattle.std.proofs.Common.{◌≡◌, ℕ, List, [], ◌∷◌, map, sym, ap, subst}
 use Rattle.mr_ast.specs.declared.types.IntType.{IntType}
 use Rattle.mr_ast.specs.declared.types.Num.{Num}
-use Rattle.mr_ast.specs.declared.types.Tree.{Tree, roll-Tree}
+use Rattle.mr_ast.specs.declared.types.Tree.{Tree, roll-Tree, out-Tree, out-roll-Tree}
 use Rattle.mr_ast.specs.declared.types.Tree.TheVariants as tree
 use Rattle.mr_ast.specs.declared.types.Tree.TheOpen.{Tree-F}
 use Rattle.mr_ast.specs.declared.types.Tree.TheFolds.{map-Tree, ind-Tree}
@@ -34,3 +34,10 @@ module _ (P : Tree → Type 0) (kinds : TreeCases P) where
 
   pub tree_induction : (t : Tree) → P t
   tree_induction = ind-Tree P (λ x y is. subst (λ z. P (roll-Tree z)) is (at_layer y))
+
+abbrev IsMade : Tree → Type 0
+IsMade t = roll-Tree (out-Tree t) ≡ t
+
+-- a tree is made of its layer
+pub tree_made : (t : Tree) → roll-Tree (out-Tree t) ≡ t
+tree_made = ind-Tree IsMade (λ x y is. ap roll-Tree (out-roll-Tree x))

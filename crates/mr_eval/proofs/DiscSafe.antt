@@ -29,7 +29,7 @@ use Rattle.mr_value.specs.Shape.{has_shape}
 use Rattle.mr_ast.proofs.TreeInduction.{AllCases, TreeCases, tree_induction}
 use Rattle.mr_base.specs.Script.{Done, Undefined, ◌>>=◌}
 use Rattle.mr_typing.specs.Types.{discriminant_in, discriminant_type}
-use Rattle.mr_ast.proofs.OrderHeads.{type_made}
+use Rattle.mr_ast.proofs.TypeInduction.{type_made}
 use Rattle.mr_eval.specs.Moves.{behind}
 use Rattle.mr_eval.specs.Typed.{Search, case_search, numbered, or_undefined, search_step, searched}
 use Rattle.mr_eval.specs.Evaluation.{discriminant_at, discriminant_layer}

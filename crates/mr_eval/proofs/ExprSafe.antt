@@ -50,7 +50,7 @@ use Rattle.mr_typing.specs.Types.{chained, compares, discriminant_in, discrimina
 use Rattle.mr_typing.proofs.ExprWalk.{Judges, result_there}
 use Rattle.mr_typing.proofs.KindLaws.{fn_ptr_is, raw_is}
 use Rattle.mr_typing.proofs.NothingLaws.{both_nothing}
-use Rattle.mr_ast.proofs.OrderHeads.{type_made}
+use Rattle.mr_ast.proofs.TypeInduction.{type_made}
 use Rattle.mr_typing.proofs.SameTypeLaws.{same_type_equal}
 use Rattle.mr_typing.proofs.TypeLaws.{type_of_addr_of, type_of_binary, type_of_cast, type_of_deref, type_of_disc, type_of_false, type_of_field, type_of_fn, type_of_global, type_of_index, type_of_int, type_of_load, type_of_local, type_of_raw, type_of_transmute, type_of_true, type_of_tuple, type_of_unary, type_of_union, type_of_variant, type_of_variant_place}
 use Rattle.mr_typing.proofs.TypedLaws.{TypedPlace, typed_addr_of, typed_binary, typed_cast, typed_deref, typed_disc, typed_field, typed_index, typed_int, typed_load, typed_transmute, typed_tuple, typed_unary, typed_union, typed_variant, typed_variant_place}

@@ -14,7 +14,7 @@ use Rattle.mr_layout.specs.Sizes.{size_of}
 use Rattle.mr_layout.specs.TypeOk.{TypeOk}
 use Rattle.mr_layout.proofs.WellFormed.{array_ok, enum_ok, tuple_ok, union_ok}
 use Rattle.mr_typing.specs.Types.{element_in, element_type, field_in, field_offset, field_type, variant_among, variant_in, variant_type}
-use Rattle.mr_ast.proofs.OrderHeads.{type_made}
+use Rattle.mr_ast.proofs.TypeInduction.{type_made}
 use Rattle.mr_eval.specs.Evaluation.{elements, elements_in, offset_in}
 
 abbrev Layer : Type 0

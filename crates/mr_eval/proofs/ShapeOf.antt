@@ -37,7 +37,7 @@ use Rattle.mr_value.proofs.ShapeLaws.{has_array, has_enum, has_int, has_tuple, h
 use Rattle.mr_typing.specs.SameTypes.{same_type}
 use Rattle.mr_typing.specs.Operands.{fits_parts, fits_parts_layer, fits_union, fits_variant, is_type, is_union_layer, match_element, match_fields}
 use Rattle.mr_typing.specs.Types.{field_in, variant_among, variant_in}
-use Rattle.mr_ast.proofs.OrderHeads.{type_made}
+use Rattle.mr_ast.proofs.TypeInduction.{type_made}
 use Rattle.mr_typing.proofs.SameTypeLaws.{same_type_equal}
 use Rattle.mr_eval.specs.Shapes.{HaveShapes}
 use Rattle.mr_eval.specs.Evaluation.{union_layer}

@@ -24,7 +24,7 @@ use Rattle.mr_value.specs.Shape.{has_shape}
 use Rattle.mr_typing.specs.Broken.{broken_in_place, sizes_of, surroundings}
 use Rattle.mr_typing.specs.Types.{tags_among, tags_layer, type_of_place, type_of_value, variant_type}
 use Rattle.mr_typing.specs.Unbroken.{UnbrokenFunction}
-use Rattle.mr_ast.proofs.OrderHeads.{type_made}
+use Rattle.mr_ast.proofs.TypeInduction.{type_made}
 use Rattle.mr_typing.proofs.TypedStmts.{TypedAssign, typed_assign, typed_disc_stmt}
 use Rattle.mr_typing.proofs.UnbrokenLaws.{well_formed_keeps}
 use Rattle.mr_eval.specs.Environment.{PlaceIn, ShapedAs, ValueIn, env_surround, locals_of}

@@ -9,7 +9,7 @@ use Rattle.mr_ast.specs.declared.types.Variant.{Variant}
 use Rattle.mr_typing.specs.SameTypes.{same_type}
 use Rattle.mr_typing.specs.Types.{integer_in, integer_of}
 use Rattle.mr_typing.specs.Operands.{is_bool, is_bool_layer, is_fn_ptr, is_fn_ptr_layer, is_raw, is_raw_layer}
-use Rattle.mr_ast.proofs.OrderHeads.{type_made}
+use Rattle.mr_ast.proofs.TypeInduction.{type_made}
 use Rattle.mr_typing.proofs.SameTypeLaws.{same_type_equal, same_type_itself}
 
 -- ---- a type of a kind

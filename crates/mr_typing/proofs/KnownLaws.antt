@@ -16,7 +16,7 @@ use Rattle.mr_typing.specs.Types.{integer_in, integer_of, overflow_type}
 use Rattle.mr_typing.specs.Operands.{is_bool, is_bool_layer, is_fn_ptr, is_raw}
 use Rattle.mr_typing.specs.Known.{are_overflow_fields, is_overflow_layer}
 use Rattle.mr_typing.proofs.KindLaws.{same_type_sym, same_with_bool, same_with_fn_ptr, same_with_int, same_with_raw}
-use Rattle.mr_ast.proofs.OrderHeads.{type_made}
+use Rattle.mr_ast.proofs.TypeInduction.{type_made}
 use Rattle.mr_typing.proofs.SameTypeLaws.{same_type_answer, same_type_equal, same_type_itself}
 use Rattle.mr_base.proofs.Comparisons.{eq_from, eq_itself}
 
