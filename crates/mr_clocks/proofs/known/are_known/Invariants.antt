@@ -1,6 +1,0 @@
-use Rattle.std.proofs.Common.{ℕ, ◌<◌, slice_index}
-use Rattle.mr_clocks.specs.Rows.{IsPlaceSeen}
-use Rattle.mr_clocks.proofs.known.are_known.Given as goal
-
-abbrev pub invariant-loop-y : goal.invariant-loop-y
-invariant-loop-y l = (z : ℕ) → z < l.y → IsPlaceSeen l.run l.rows l.links (slice_index l.found z) l.clock l.j
