@@ -15,7 +15,6 @@ impl PartialEq for Ty {
 
     ghost laws = { partial_equiv_from_equiv (decided equal_types equal_types_decides) };
 
-    #[tactic(auto, using(crate::proofs::EqualLaws::equal_types_answer))]
     fn eq(&self, other: &Ty) -> bool {
         self.same(other)
     }
@@ -25,7 +24,7 @@ impl Eq for Ty {
     ghost laws = { decided equal_types equal_types_decides };
 }
 
-/// All of a type is written: where two types differ, so does what is written of them.
+/// All of a type is written into the hasher.
 impl Hash for Ty {
     ghost hash_input = { type_writes };
 

@@ -1,13 +1,13 @@
 -- Types that are kept with their layouts, each once.
 use Rattle.std.proofs.Common.{◌≡◌, ℕ, ◌+◌, ◌<◌, ◌≤◌, ⊎_elim, Bool, true, false, cond, List, [], ◌∷◌, ◌++◌, map, length, get_or, Option, Some, None, is_some, inr, refl, sym, ap, subst, ◌∙◌, true≢false, Bor, take, arith}
-use Rattle.std.specs.Prelude.{All, Contains, IfNone, IfSome, ◌≢◌}
-use Rattle.std.specs.Map.{lookup}
-use Rattle.std.specs.Option.{option_copied}
+use Rattle.std.specs.Prelude.{All, Contains, IfNone, IfSome, position, slice_get, ◌≢◌}
+use Rattle.std.specs.Map.{keys_of, lookup, values_of}
+use Rattle.std.specs.Option.{option_map}
 use Rattle.std.proofs.lemmas.List.{length-map, get_or-map, get_or_default, map_push, map_more, take_all}
 use Rattle.std.proofs.lemmas.List.Elements.{All-from_recursion, All-head, All-push, All-tail, All-weaker, Contains-append_left, Contains-append_right, Contains-get_or, Contains-push}
-use Rattle.std.proofs.lemmas.List.Quantifiers.{all_pairs_push}
+use Rattle.std.proofs.lemmas.List.Quantifiers.{all_pairs_push, position-Some}
 use Rattle.std.proofs.lemmas.Map.{none_passes_from_lookup}
-use Rattle.std.proofs.lemmas.Option.{none-some, same_Some}
+use Rattle.std.proofs.lemmas.Option.{get_or_from_slice_get, none-some, same_Some, slice_get-get_or, slice_get-map, slice_get_within}
 use Rattle.mr_ast.specs.declared.types.IntType.{IntType}
 use Rattle.mr_ast.specs.declared.types.Ty.{Ty}
 use Rattle.mr_ast.specs.declared.types.Ty.TheVariants as ty
@@ -79,15 +79,54 @@ lookup_missing entries t none c =
     let is : t ≡ type_in (get_or entries c.0 d) = sym c.2 ∙ get_or-map type_in entries c.0 d t inside in
     true≢false (sym ((equal_types_decides t (type_in (get_or entries c.0 d))).1 is) ∙ other)
 
--- the same of what `get` gives
-pub get_found : (entries : List Entry) (t : Ty) (r : Option (Bor Layout)) → AreDefined entries → option_copied r ≡ lookup (is_type t) entries
-    → IfSome r (λ l. Contains (held_types entries) t × (l.now ≡ layout_of t))
-get_found entries t None defined is = tt
-get_found entries t (Some l) defined is = lookup_found entries t l.now defined (sym is)
+-- what it doesn't find has no value there
+pub none_there : {A : Type 0} (r : Option A) → is_some r ≡ false → r ≡ None
+none_there None e = refl
+none_there (Some x) e = absurd (true≢false e)
 
-pub get_missing : (entries : List Entry) (t : Ty) (r : Option (Bor Layout)) → option_copied r ≡ lookup (is_type t) entries → IfNone r (¬ Contains (held_types entries) t)
-get_missing entries t None is = lookup_missing entries t (sym is)
-get_missing entries t (Some l) is = tt
+-- ---- a place among the entries
+
+type_of_key : (o : Option Entry) → option_map type_in o ≡ option_map (λ (k : Bor Ty). k.now) (option_map (λ (e : Entry). e.0) o)
+type_of_key None = refl
+type_of_key (Some e) = refl
+
+-- a place that a look-up gives has the type
+pub place_found : (entries : List Entry) (t : Ty) (r : Option ℕ) → r ≡ position (is_type t) (keys_of entries) → IfSome r (λ at. slice_get (held_types entries) at ≡ Some t)
+place_found entries t None is = tt
+place_found entries t (Some at) is =
+    let d : Bor Ty = record { ref_ptr = (0, 0); now = t } in
+    let keys = keys_of entries in
+    let p = position-Some (is_type t) keys at d (sym is) in
+    let same : (get_or keys at d).now ≡ t = sym ((equal_types_decides t (get_or keys at d).now).0 p.1) in
+    slice_get-map type_in entries at ∙ type_of_key (slice_get entries at)
+    ∙ ap (option_map (λ (k : Bor Ty). k.now)) (sym (slice_get-map (λ (e : Entry). e.0) entries at) ∙ slice_get-get_or keys at d p.0) ∙ ap Some same
+
+-- and where it gives none, the type isn't held
+pub place_missing : (entries : List Entry) (t : Ty) (r : Option ℕ) → is_some r ≡ is_some (lookup (is_type t) entries) → IfNone r (¬ Contains (held_types entries) t)
+place_missing entries t None is = lookup_missing entries t (none_there (lookup (is_type t) entries) (sym is))
+place_missing entries t (Some at) is = tt
+
+-- the place of a type that is held is one of an entry
+pub place_within : (entries : List Entry) (t : Ty) (at : ℕ) → slice_get (held_types entries) at ≡ Some t → at < length entries
+place_within entries t at found = let inside : at < length (held_types entries) = slice_get_within (held_types entries) at t found in omega (arith, length-map entries type_in)
+
+-- and what is kept there is the layout of the type
+pub kept_at : (entries : List Entry) (t : Ty) (at : ℕ) (l : Layout) → AreDefined entries → slice_get (held_types entries) at ≡ Some t → slice_get (values_of entries) at ≡ Some l
+    → Contains (held_types entries) t × (l ≡ layout_of t)
+kept_at entries t at l defined found value = by (slice_get entries at) refl
+  where
+    by : (o : Option Entry) → slice_get entries at ≡ o → Contains (held_types entries) t × (l ≡ layout_of t)
+    by None is = absurd (none-some t (sym (slice_get-map type_in entries at ∙ ap (option_map type_in) is) ∙ found))
+    by (Some e) is =
+        let same : type_in e ≡ t = same_Some (type_in e) t (sym (slice_get-map type_in entries at ∙ ap (option_map type_in) is) ∙ found) in
+        let here : e.1 ≡ l = same_Some e.1 l (sym (slice_get-map (λ (x : Entry). x.1) entries at ∙ ap (option_map (λ (x : Entry). x.1)) is) ∙ value) in
+        let read : get_or entries at e ≡ e = get_or_from_slice_get entries at e e is in
+        let own : e.1 ≡ layout_of (type_in e) = subst (λ (x : Entry). x.1 ≡ layout_of (type_in x)) read (defined at e (slice_get_within entries at e is)) in (
+          (at, slice_get_within (held_types entries) at t found, get_or_from_slice_get (held_types entries) at t t found),
+          sym here ∙ own ∙ ap layout_of same,
+        )
+
+pub ruleset kept_laws = (place_within, kept_at)
 
 -- ---- an entry that is put last
 
@@ -98,11 +137,6 @@ held_already entries t defined found = by (lookup (is_type t) entries) refl
     by : (r : Option Layout) → lookup (is_type t) entries ≡ r → Contains (held_types entries) t
     by None is = absurd (true≢false (sym found ∙ ap is_some is))
     by (Some l) is = (lookup_found entries t l defined is).0
-
--- what it doesn't find has no value there
-pub none_there : {A : Type 0} (r : Option A) → is_some r ≡ false → r ≡ None
-none_there None e = refl
-none_there (Some x) e = absurd (true≢false e)
 
 -- an entry that is put last adds its type
 pub added : (entries : List Entry) (t : Bor Ty) (l : Layout) → lookup (is_type t.now) entries ≡ None → Adds (held_types entries) t.now (held_types (entries ++ (t, l) ∷ []))

@@ -1,9 +1,9 @@
 //! The layouts of the types of a program.
-ghost use Rattle.std.specs.Prelude.{◌≡◌, All, Contains, OnOk, IfOk, IfSome, IfNone};
+ghost use Rattle.std.specs.Prelude.{◌≡◌, All, Contains, Some, slice_get, OnOk, IfOk, IfSome, IfNone};
 ghost use Rattle.mr_layout.specs.TypeOk.{TypeOk};
 ghost use Rattle.mr_layout.specs.Written.{written_types};
 ghost use Rattle.mr_layout.specs.Cached.{IsCacheOf, Adds};
-ghost use Rattle.mr_layout.specs.Layouts.{layout_of};
+ghost use Rattle.mr_layout.specs.Layouts.{layout_of, held_types};
 
 use crate::sizes::{align, inhabited, int_bytes, size};
 use crate::written::find_types;
@@ -68,11 +68,13 @@ impl<'p> Cache<'p> {
     }
 
     /// The layout of a type, and `None` where the type isn't held. It takes no memory.
+    #[tactic(auto, using(crate::proofs::CacheLaws::kept_laws))]
     pub fn get(&self, t: &Ty) -> Option<&Layout>
         ensures found { IfSome result (λ layout. Contains self.now t.now × (layout.now ≡ layout_of t.now)) }
         ensures missing { IfNone result (¬ Contains self.now t.now) }
     {
-        self.entries.get(&t)
+        let at = position(&self.entries, t)?;
+        Some(&self.entries[at])
     }
 
     /// The layout of a well-formed type: the one that is held, or one that is worked out where the type isn't held. It takes no memory.
@@ -110,6 +112,14 @@ impl<'p> Cache<'p> {
         self.entries.insert(t, defined_layout(t))?;
         Ok(())
     }
+}
+
+// Where the entry of a type stands.
+fn position<'a>(entries: &IndexMap<&'a Ty, Layout, TextKey>, t: &'a Ty) -> Option<usize>
+    ensures found { IfSome result (λ at. slice_get (held_types entries.now.entries) at ≡ Some t.now) }
+    ensures missing { IfNone result (¬ Contains (held_types entries.now.entries) t.now) }
+{
+    entries.get_index_of(&t)
 }
 
 // The layout of a type.

@@ -54,10 +54,10 @@ broken-returns-in-Tuple-clause-marks t c =
 pub broken-returns-in-Union-clause-marks : goal.broken-returns-in-Union-clause-marks
 broken-returns-in-Union-clause-marks t c =
     let here = c.in-Union in
-    let same = ap₂ (ty.Union here.size here.align) c.as_slice-in-Union.ensures c.as_slice-in-Union-2.ensures ∙ sym here.is in
+    let same = ap₂ (ty.Union here.size here.align) c.as_slice-fields.ensures c.as_slice-chunks.ensures ∙ sym here.is in
     IfOk-weaker c.broken_union.result _ _
     (λ told h e.
-    marks_alike (is_used (ty.Union here.size here.align c.as_slice-in-Union.result.now c.as_slice-in-Union-2.result.now)) (is_used c.args.t.now) c.args.start c.args.table.now c.broken_union.new.table
+    marks_alike (is_used (ty.Union here.size here.align c.as_slice-fields.result.now c.as_slice-chunks.result.now)) (is_used c.args.t.now) c.args.start c.args.table.now c.broken_union.new.table
     (λ at. ap (λ (u : Ty). is_used u at) same) (h e))
     c.broken_union.ensures.marks
 
