@@ -498,9 +498,9 @@ fn walked_clock(
     })
 }
 
-/// How the clock of the step before in j's thread stands to the rows that `j` asks: as one that knows too little where a
-/// step woke the thread since, or a hint names a step that leads to `j`. Where it stands so that `j` keeps it and is
-/// settled, `j` has no partner.
+/// How the clock of the step before in j's thread stands to the rows that `j` asks: as one that knows too little where
+/// a step woke the thread since, or a hint names a step that leads to `j`. Where it keeps, `j` keeps that clock; where
+/// it is settled too, `j` has no partner.
 pub(crate) fn standing_of(
     run: &[Footprint],
     clocks: &[Clock],
@@ -539,8 +539,8 @@ pub(crate) fn standing_of(
     standing_to(run, clock, rows, links, found, j)
 }
 
-/// The clock of step `j`, from those of the steps before it. It is known whether `j` keeps that of the step before in its
-/// thread.
+/// The clock of step `j`, from those of the steps before it. It is known whether `j` keeps that of the step before in
+/// its thread.
 pub(crate) fn clock_of(
     alloc: Global,
     run: &[Footprint],
