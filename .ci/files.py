@@ -35,13 +35,14 @@ def read(path):
 
 
 def sources():
-    """The texts of all crates that aren't tests, without examples: by crate, folder and file."""
+    """The texts of all crates that aren't tests, by crate, folder and file; without examples, and without proofs/Common,
+    which passes on names that stand elsewhere: a new one can be named where it is used."""
     found = {}
     for crate in sorted(it for it in os.listdir(f"{TOP}/crates") if not it.endswith(("_tests", "_cases"))):
         for part in FOLDERS:
             top = f"{TOP}/crates/{crate}/{part}"
             for folder, _, names in os.walk(top):
-                for name in (it for it in names if it.endswith((".rt", ".antt")) and "Examples" not in it):
+                for name in (it for it in names if it.endswith((".rt", ".antt")) and not re.search("Examples|^Common", it)):
                     path = os.path.relpath(f"{folder}/{name}", top).rsplit(".", 1)[0]
                     found[crate, part, path] = read(f"{folder}/{name}")
     return found
