@@ -161,7 +161,7 @@ fn carry_out(
     let mut text = Vec::new(alloc);
     let (args, types) = (call.args.as_slice(), call.arg_types.as_slice());
     let place = call.result_type.as_ref();
-    match operate(alloc, op, args, types, place, s, sync, &mut text, picks) {
+    match operate(op, args, types, place, s, sync, &mut text, picks) {
         Err(fault) => Err(TurnFault::from(fault)),
         Ok(effect) => end_told(alloc, look, stack, s, call, op, effect, text),
     }
