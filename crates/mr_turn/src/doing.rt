@@ -36,7 +36,12 @@ pub fn do_turn(
     match stack.arguments(alloc, look, &s.memory, &mut s.notes) {
         Err(Fault::Memory) => Err(TurnFault::Memory),
         Err(Fault::Undefined(reason)) => Err(stopped(reason, picks)),
-        Ok(call) => act(alloc, look, stack, s, sync, op, &call, picks),
+        Ok(call) => {
+            let answer = act(alloc, look, stack, s, sync, op, &call, picks);
+            s.notes.spare_values = call.args;
+            s.notes.spare_types = call.arg_types;
+            answer
+        }
     }
 }
 
