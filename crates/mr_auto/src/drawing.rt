@@ -16,10 +16,9 @@ use crate::candidates::enabled_threads;
 use crate::picking::{picks_for, start_picks};
 use crate::running::make_step;
 use mr_base::Verdict;
-use mr_run::Record;
+use mr_run::{Machine, Record, StepFault};
 use mr_sched::{Chooser, Entry, Items, Schedule};
 use mr_start::start_asks;
-use mr_step::{Machine, StepFault};
 use mr_typing::Checked;
 use std::alloc::{AllocError, Global};
 

@@ -9,8 +9,8 @@ ghost use Rattle.mr_base.specs.declared.thread.Status.TheVariants.{Enabled};
 ghost use Rattle.mr_sched.specs.declared.schedule.Ask.TheVariants.{Waiter};
 
 use crate::candidates::waiting_threads;
+use mr_run::Machine;
 use mr_sched::{Ask, Chooser, Items};
-use mr_step::Machine;
 use std::alloc::{AllocError, Global};
 
 /// An address, where one is found.

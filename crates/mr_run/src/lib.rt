@@ -35,5 +35,6 @@ pub use fault::RunFault;
 pub use keeping::{Nothing, Record};
 pub use laws::{one_thread_shows_no_race, steps_and_entries};
 pub use mr_event::{Footprint, OutOfMemory, Pair};
+pub use mr_step::{Machine, StepFault};
 pub use running::{run, step};
 pub use witnesses::{Selection, first_witness};

@@ -6,7 +6,7 @@ use Rattle.mr_plan.specs.Limits.{AreWithin}
 use Rattle.mr_plan.specs.Runs.{Config}
 use Rattle.mr_frame.specs.Frames.{Look}
 use Rattle.mr_start.specs.Steps.{Own}
-use Rattle.mr_start.specs.declared.beginning.Start.{Start}
+use Rattle.mr_turn.specs.Began.{Start}
 use Rattle.mr_start.specs.Begin.{IsStart}
 use Rattle.mr_start.specs.Start.{start_fault}
 use Rattle.mr_start.proofs.StartLimits.{start_within}

@@ -12,7 +12,7 @@ use mr_event::Footprint;
 use mr_frame::At;
 use mr_runs::View;
 use mr_sched::{Ask, Entry};
-use mr_start::{Start, begin};
+use mr_turn::{Start, begin};
 use mr_typing::Checked;
 use std::alloc::{AllocError, Global};
 use std::marker::Model;

@@ -18,4 +18,8 @@ mod turning;
 
 pub use asking::asks;
 pub use deed::{Deed, TurnFault};
+pub use mr_start::{
+    PickFailure, Start, StartFault, begin, feet_counted, legal_schedules, never_ill_formed,
+    one_at_most, whole_start,
+};
 pub use turning::turn;
