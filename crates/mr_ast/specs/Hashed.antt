@@ -1,5 +1,5 @@
 -- What is written of a type into a hasher: all of it, in numbers, and each level behind the number of its kind.
-use Rattle.std.specs.Prelude.{ℕ, Bool, true, false, List, ◌++◌}
+use Rattle.std.specs.Prelude.{ℕ, Bool, true, false, ◌++◌}
 use Rattle.std.specs.Hash as fed
 use Rattle.std.specs.Hash.{HashWrites}
 use Rattle.mr_ast.specs.declared.types.IntType.{IntType}

@@ -126,8 +126,6 @@ kept_at entries t at l defined found value = by (slice_get entries at) refl
           sym here ∙ own ∙ ap layout_of same,
         )
 
-pub ruleset kept_laws = (place_within, kept_at)
-
 -- ---- an entry that is put last
 
 -- what a look-up finds is held

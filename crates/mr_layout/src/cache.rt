@@ -68,7 +68,7 @@ impl<'p> Cache<'p> {
     }
 
     /// The layout of a type, and `None` where the type isn't held. It takes no memory.
-    #[tactic(auto, using(crate::proofs::CacheLaws::kept_laws))]
+    #[tactic(auto, using(crate::proofs::CacheLaws::place_within))]
     pub fn get(&self, t: &Ty) -> Option<&Layout>
         ensures found { IfSome result (λ layout. Contains self.now t.now × (layout.now ≡ layout_of t.now)) }
         ensures missing { IfNone result (¬ Contains self.now t.now) }
