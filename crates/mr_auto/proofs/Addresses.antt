@@ -7,7 +7,7 @@ use Rattle.std.proofs.lemmas.Bool.{ltb-true}
 use Rattle.std.proofs.lemmas.Bool.Decides.{nat_tests}
 use Rattle.std.proofs.lemmas.Option.{same_Some}
 use Rattle.mr_base.specs.Pairs.{is_meeting}
-use Rattle.mr_mem.specs.Memory.{is_bad_address}
+use Rattle.mr_start.specs.MemMemory.{is_bad_address}
 use Rattle.mr_sched.specs.Chooser.{address_from, aligned_from, behind_address, behind_bytes, has_address}
 use Rattle.mr_sched.specs.declared.chooser.Chooser.{Chooser}
 use Rattle.mr_auto.specs.Drawing.{found}

@@ -2,8 +2,8 @@
 use Rattle.std.proofs.Common.{◌≡◌, ℕ, ◌+◌, ◌<◌, ◌≤◌, ◌^◌, refl, sym, ap, ap₂, ◌∙◌, subst, arith, List, [], ◌∷◌, map, Some, None}
 use Rattle.mr_ast.specs.declared.program.Program.{Program}
 use Rattle.mr_base.specs.declared.thread.Status.TheVariants.{Enabled}
-use Rattle.mr_step.specs.PlanLegal.{Fault}
-use Rattle.mr_step.specs.PlanRuns.{after, feet}
+use Rattle.mr_run.specs.StepPlanLegal.{Fault}
+use Rattle.mr_run.specs.StepPlanRuns.{after, feet}
 use Rattle.mr_sched.specs.Chooser.{first_chooser}
 use Rattle.mr_sched.specs.declared.chooser.Chooser.{Chooser}
 use Rattle.mr_sched.specs.declared.schedule.Ask.{Ask}
@@ -15,8 +15,8 @@ use Rattle.mr_run.specs.Runs.{IsRun}
 use Rattle.mr_start.specs.Runs.{Legal, run_of, steps_of}
 use Rattle.mr_start.specs.Start.{Piece, ask_of, look_of, pieces, start_config, start_fault}
 use Rattle.mr_start.proofs.StartSound.{start_look, start_sound}
-use Rattle.mr_step.specs.Answers.{standing}
-use Rattle.mr_step.specs.Standing.{Standing}
+use Rattle.mr_run.specs.StepAnswers.{standing}
+use Rattle.mr_run.specs.StepStanding.{Standing}
 use Rattle.mr_auto.specs.Answers.{AreAddresses}
 use Rattle.mr_auto.specs.Drawing.{Picked, drawn_schedule, picked, schedule_from, start_picked}
 use Rattle.mr_auto.specs.Drawn.{BeginsDrawing, DrawnAfter, drawn_from_here}

@@ -4,20 +4,20 @@ use Rattle.std.specs.Prelude.{slice_get, if◌then◌else◌}
 use Rattle.mr_base.specs.declared.reached.Reached.{Reached}
 use Rattle.mr_base.specs.declared.reason.Verdict.{Verdict}
 use Rattle.mr_base.specs.declared.reason.Verdict.TheVariants as verdict
-use Rattle.mr_event.specs.Footprint.{Footprint}
-use Rattle.mr_mem.specs.Memory.{leaks}
+use Rattle.mr_run.specs.EventFootprint.{Footprint}
+use Rattle.mr_start.specs.MemMemory.{leaks}
 use Rattle.mr_sched.specs.declared.chooser.Chooser.{Chooser}
 use Rattle.mr_sched.specs.declared.schedule.Entry.{Entry}
 use Rattle.mr_base.specs.Script.{Broken, Outcome, Refused, Went}
-use Rattle.mr_step.specs.PlanMachine.{Aborts, Bare, Completed, Exits, Flow, Goes, IllFormedStep, Language, State, Stops, Thread, acted, bare, settled}
-use Rattle.mr_step.specs.PlanNotes.{Notes}
-use Rattle.mr_step.specs.PlanQueries.{Shared}
-use Rattle.mr_step.specs.PlanRuns.{Config, after, after_bare, feet, foot_from, has_rule, is_ill_formed, is_running, machine_step, stepped_from}
-use Rattle.mr_step.proofs.PlanRunLaws.{completed_by_step}
+use Rattle.mr_run.specs.StepPlanMachine.{Aborts, Bare, Completed, Exits, Flow, Goes, IllFormedStep, Language, State, Stops, Thread, acted, bare, settled}
+use Rattle.mr_run.specs.StepPlanNotes.{Notes}
+use Rattle.mr_run.specs.StepPlanQueries.{Shared}
+use Rattle.mr_run.specs.StepPlanRuns.{Config, after, after_bare, feet, foot_from, has_rule, is_ill_formed, is_running, machine_step, stepped_from}
+use Rattle.mr_run.proofs.StepPlanRunLaws.{completed_by_step}
 use Rattle.mr_start.specs.FrameFrames.{Look}
 use Rattle.mr_start.specs.Steps.{Own, thread_step}
 use Rattle.mr_start.specs.Runs.{program_fault, program_step}
-use Rattle.mr_step.specs.Standing.{Standing}
+use Rattle.mr_run.specs.StepStanding.{Standing}
 use Rattle.mr_run.specs.Runs.{IsMade, foot_by}
 use Rattle.mr_run.proofs.EntryLaws.{one_foot}
 use Rattle.mr_auto.specs.Answers.{HasState, NextAnswer}

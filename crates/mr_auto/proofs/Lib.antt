@@ -9,3 +9,4 @@ pub mod PicksLeft
 pub mod StartFound
 pub mod Starts
 pub mod Steps
+pub use Rattle.mr_start.proofs.RunLaws as StartRunLaws

@@ -5,11 +5,11 @@ use Rattle.std.specs.Option.{option_map}
 use Rattle.mr_sched.specs.Chooser.{behind_draw, drawn_from}
 use Rattle.mr_sched.specs.declared.chooser.Chooser.{Chooser}
 use Rattle.mr_sched.specs.declared.schedule.Ask.{Ask}
-use Rattle.mr_step.specs.PlanLegal.{Fault, creation_fault}
-use Rattle.mr_step.specs.PlanMachine.{State, needs}
+use Rattle.mr_run.specs.StepPlanLegal.{Fault, creation_fault}
+use Rattle.mr_run.specs.StepPlanMachine.{State, needs}
 use Rattle.mr_start.specs.FrameFrames.{Look}
 use Rattle.mr_start.specs.Steps.{Own, thread_step}
-use Rattle.mr_step.specs.PlanRuns.{Config, is_running}
+use Rattle.mr_run.specs.StepPlanRuns.{Config, is_running}
 use Rattle.mr_auto.specs.Drawing.{candidate, enabled_in, entry_by, entry_from, entry_of, next_at, next_in, picked, within_limits}
 
 -- no code is told, so no limit is reached

@@ -5,16 +5,16 @@ use Rattle.std.specs.List.{filter, range_with_len}
 use Rattle.std.proofs.Math.Nat.{mod-lt}
 use Rattle.std.proofs.lemmas.Option.{same_Some}
 use Rattle.mr_base.specs.declared.thread.Status.{Status}
-use Rattle.mr_mem.specs.Memory.{Ranges}
+use Rattle.mr_start.specs.MemMemory.{Ranges}
 use Rattle.mr_sched.specs.Chooser.{behind_address, behind_draw, drawn, position_in}
 use Rattle.mr_sched.specs.declared.chooser.Chooser.{Chooser}
 use Rattle.mr_sched.specs.declared.schedule.Ask.{Ask}
 use Rattle.mr_sched.specs.declared.schedule.Ask.TheVariants.{Address, Waiter}
-use Rattle.mr_sync.specs.Tables.{on_lock}
-use Rattle.mr_step.proofs.PlanElementLaws.{Contains-nil}
-use Rattle.mr_step.specs.SwapMeets.{IsTaken, MeetsAfter, addresses}
-use Rattle.mr_step.proofs.SwapElementTests.{front_cases}
-use Rattle.mr_step.proofs.SwapMeetsLaws.{clear_from}
+use Rattle.mr_start.specs.SyncTables.{on_lock}
+use Rattle.mr_run.proofs.StepPlanElementLaws.{Contains-nil}
+use Rattle.mr_run.specs.StepSwapMeets.{IsTaken, MeetsAfter, addresses}
+use Rattle.mr_run.proofs.StepSwapElementTests.{front_cases}
+use Rattle.mr_run.proofs.StepSwapMeetsLaws.{clear_from}
 use Rattle.mr_auto.specs.Drawing.{Picked, candidate, found, picked, put, threads_where, waiting_in}
 use Rattle.mr_auto.specs.Drawn.{EndsBy}
 use Rattle.mr_auto.proofs.Addresses.{apart_behind, bytes_behind, found_is, not_bad}

@@ -11,19 +11,19 @@ use Rattle.mr_base.specs.declared.byte.Pointer.{Pointer}
 use Rattle.mr_base.specs.declared.reason.Reason.{Reason}
 use Rattle.mr_base.specs.declared.reason.Reason.TheVariants.{Misaligned, NoProvenance}
 use Rattle.mr_base.specs.declared.thread.Status.TheVariants.{Enabled}
-use Rattle.mr_mem.specs.Memory.{Allocation, Memory, allocated, inside, is_multiple, put_at, put_in, ranges_of, then_give, written}
-use Rattle.mr_mem.proofs.Identities.{get_here, get_there}
-use Rattle.mr_mem.proofs.RangeLaws.{ranges-allocated, ranges-empty}
+use Rattle.mr_start.specs.MemMemory.{Allocation, Memory, allocated, inside, is_multiple, put_at, put_in, ranges_of, then_give, written}
+use Rattle.mr_start.proofs.MemIdentities.{get_here, get_there}
+use Rattle.mr_start.proofs.MemRangeLaws.{ranges-allocated, ranges-empty}
 use Rattle.mr_runs.specs.Ranges.{with_range_replaced}
 use Rattle.mr_sched.specs.Chooser.{first_chooser}
-use Rattle.mr_step.specs.PlanMachine.{State}
-use Rattle.mr_step.proofs.PlanElementLaws.{Contains-nil}
-use Rattle.mr_step.proofs.PlanIdentityCases.{id_cases}
-use Rattle.mr_step.proofs.PlanMemoryFacts.{Ranged}
+use Rattle.mr_run.specs.StepPlanMachine.{State}
+use Rattle.mr_run.proofs.StepPlanElementLaws.{Contains-nil}
+use Rattle.mr_run.proofs.StepPlanIdentityCases.{id_cases}
+use Rattle.mr_run.proofs.StepPlanMemoryFacts.{Ranged}
 use Rattle.mr_start.specs.Steps.{Own}
 use Rattle.mr_start.specs.Start.{Piece, ask_of, behind_store, filled, global_bytes, look_of, pieces, placed, start_config, start_fault, start_memory, start_placed}
-use Rattle.mr_step.specs.SwapMeets.{IsTaken, ranges_after}
-use Rattle.mr_step.proofs.SwapMeetsLaws.{after_only, legal_of_meets, taken_in, taken_of_memory}
+use Rattle.mr_run.specs.StepSwapMeets.{IsTaken, ranges_after}
+use Rattle.mr_run.proofs.StepSwapMeetsLaws.{after_only, legal_of_meets, taken_in, taken_of_memory}
 use Rattle.mr_auto.specs.Drawing.{Picked, start_picked}
 use Rattle.mr_auto.specs.Drawn.{EndsBy, LiesBehind}
 use Rattle.mr_auto.proofs.Picks.{ArePicks, picks_are}

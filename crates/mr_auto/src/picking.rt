@@ -1,6 +1,6 @@
 //! The picks for what is asked.
 ghost use Rattle.std.specs.Prelude.{◌≡◌, [], ◌∷◌, IfOk, Some};
-ghost use Rattle.mr_step.specs.PlanMachine.{State};
+ghost use Rattle.mr_run.specs.StepPlanMachine.{State};
 ghost use Rattle.mr_sched.specs.Chooser.{behind_address, behind_draw};
 ghost use Rattle.mr_start.specs.Steps.{Own};
 ghost use Rattle.mr_auto.specs.Answers.{AreAddresses, PickAnswer, PicksAnswer};

@@ -1,6 +1,6 @@
 //! One step of a machine that works.
 ghost use Rattle.std.specs.Prelude.{◌≡◌, ◌++◌, ◌^◌, ◌<◌, false, List, None, OnOk};
-ghost use Rattle.mr_event.specs.Footprint.{Footprint};
+ghost use Rattle.mr_run.specs.EventFootprint.{Footprint};
 ghost use Rattle.mr_start.specs.Runs.{program_fault};
 ghost use Rattle.mr_run.specs.Records.{HasRoom};
 ghost use Rattle.mr_run.specs.Runs.{IsMade, foot_by};

@@ -5,10 +5,10 @@ use Rattle.std.proofs.lemmas.List.{length-set, set-append_left, set_comm}
 use Rattle.mr_base.specs.Script.{◌>>=◌, Outcome, Went, Refused, Broken, on, run}
 use Rattle.mr_base.proofs.ScriptRuns.{run_bind}
 use Rattle.mr_base.proofs.ScriptSwaps.{goes_on}
-use Rattle.mr_plan.specs.Machine.{Aborts, Completed, Exits, Flow, Goes, Language, Needs, Plan, State, Thread, acted, bare, needed, needs, needs_of, settle, settled, started_threads, thread_of}
-use Rattle.mr_plan.specs.Notes.{Notes, start_notes}
-use Rattle.mr_plan.specs.Queries.{Shared, StepScript, answer}
-use Rattle.mr_plan.proofs.Rooms.{in_front}
+use Rattle.mr_start.specs.PlanMachine.{Aborts, Completed, Exits, Flow, Goes, Language, Needs, Plan, State, Thread, acted, bare, needed, needs, needs_of, settle, settled, started_threads, thread_of}
+use Rattle.mr_start.specs.PlanNotes.{Notes, start_notes}
+use Rattle.mr_start.specs.PlanQueries.{Shared, StepScript, answer}
+use Rattle.mr_start.proofs.PlanRooms.{in_front}
 use Rattle.mr_base.proofs.Lists.{set_there}
 
 -- ---- the list of threads

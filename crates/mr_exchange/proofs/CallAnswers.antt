@@ -7,9 +7,9 @@ use Rattle.mr_base.specs.declared.reason.Reason.TheVariants.{NotHolder, UnknownL
 use Rattle.mr_base.specs.declared.thread.Event.TheVariants.{Acquire, Join, Release}
 use Rattle.mr_base.specs.declared.thread.Status.TheVariants.{Enabled}
 use Rattle.mr_base.specs.Script.{Outcome, Went, Broken}
-use Rattle.mr_sync.specs.Tables.{Tables, any_waits, awaiting, handed, holding, on_lock, trying, waits}
-use Rattle.mr_plan.specs.Notes.{Notes}
-use Rattle.mr_plan.specs.Queries.{Shared, giving, going, note, tables_of, telling, with_tables, woke}
+use Rattle.mr_start.specs.SyncTables.{Tables, any_waits, awaiting, handed, holding, on_lock, trying, waits}
+use Rattle.mr_start.specs.PlanNotes.{Notes}
+use Rattle.mr_start.specs.PlanQueries.{Shared, giving, going, note, tables_of, telling, with_tables, woke}
 
 -- ---- tests
 

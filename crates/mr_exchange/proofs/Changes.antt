@@ -8,12 +8,12 @@ use Rattle.mr_base.specs.declared.thread.Status.TheVariants.{Enabled, OnJoin, On
 use Rattle.mr_mem.specs.Memory.{Memory}
 use Rattle.mr_base.specs.Script.{Done, Undefined, IllFormed, Ask, Went, run}
 use Rattle.mr_base.proofs.ScriptSwaps.{goes_on}
-use Rattle.mr_sync.specs.Tables.{any_waits, handed, joiners, over}
-use Rattle.mr_plan.specs.EvalMemoryQueries.{MemoryQuery, MemoryReply, memory_answer}
-use Rattle.mr_plan.specs.EvalTally.{Tally}
-use Rattle.mr_plan.specs.Notes.{Notes}
-use Rattle.mr_plan.specs.Queries.{Await, Finish, NewLock, OfMemory, Print, Query, Reply, Shared, Start, StepScript, TryLock, Unlock, Waiting, answer, blocked, in_shared, note, tables_of, woke}
-use Rattle.mr_plan.proofs.WentLaws.{at_outcome}
+use Rattle.mr_start.specs.SyncTables.{any_waits, handed, joiners, over}
+use Rattle.mr_start.specs.PlanEvalMemoryQueries.{MemoryQuery, MemoryReply, memory_answer}
+use Rattle.mr_start.specs.PlanEvalTally.{Tally}
+use Rattle.mr_start.specs.PlanNotes.{Notes}
+use Rattle.mr_start.specs.PlanQueries.{Await, Finish, NewLock, OfMemory, Print, Query, Reply, Shared, Start, StepScript, TryLock, Unlock, Waiting, answer, blocked, in_shared, note, tables_of, woke}
+use Rattle.mr_start.proofs.PlanWentLaws.{at_outcome}
 use Rattle.mr_exchange.proofs.CallAnswers.{IsHeld, handing, holds, joining, looking, not_broken, taking, unlocked_free, unlocked_given}
 use Rattle.mr_exchange.proofs.Statuses.{after_end, waits_lock}
 

@@ -7,13 +7,13 @@ use Rattle.std.proofs.lemmas.Bool.{ne_eqb}
 use Rattle.std.proofs.lemmas.List.Elements.{All-append, All-cons, All-nil, Contains-append_left}
 use Rattle.mr_base.specs.declared.access.Access.{Access}
 use Rattle.mr_base.specs.declared.byte.AllocId.{AllocId}
-use Rattle.mr_plan.specs.EvalTally.{Tally}
+use Rattle.mr_start.specs.PlanEvalTally.{Tally}
 use Rattle.mr_event.specs.FootOk.{IsAccessOk}
 use Rattle.mr_event.specs.Footprint.{Footprint}
 use Rattle.mr_mem.specs.Memory.{Allocation, Memory, extent_of}
-use Rattle.mr_plan.specs.Limits.{ArePlaced, IsPlaced}
-use Rattle.mr_plan.specs.Notes.{Notes, accesses_in, event_of, foot_of, whole_store, whole_stores}
-use Rattle.mr_plan.proofs.MemoryFacts.{MemoryFacts}
+use Rattle.mr_start.specs.PlanLimits.{ArePlaced, IsPlaced}
+use Rattle.mr_start.specs.PlanNotes.{Notes, accesses_in, event_of, foot_of, whole_store, whole_stores}
+use Rattle.mr_start.proofs.PlanMemoryFacts.{MemoryFacts}
 use Rattle.mr_exchange.proofs.ElementTests.{here, there}
 
 -- what evaluation accessed is accessed

@@ -3,7 +3,7 @@ use Rattle.std.proofs.Common.{◌≡◌, sym, ap, ◌∙◌, subst, List, [], �
 use Rattle.std.specs.List.{list_any}
 use Rattle.std.proofs.lemmas.Bool.{or_parts}
 use Rattle.std.proofs.lemmas.List.Elements.{Contains-append_cases, Contains-append_left, Contains-append_right, Contains-push}
-use Rattle.mr_plan.proofs.ElementLaws.{Contains-nil, Contains-one}
+use Rattle.mr_start.proofs.PlanElementLaws.{Contains-nil, Contains-one}
 
 -- ---- one element in front
 

@@ -10,8 +10,8 @@ use Rattle.mr_base.specs.declared.thread.Event.{Event}
 use Rattle.mr_base.specs.declared.thread.Event.TheVariants.{Acquire, CreateLock, Join, Quiet, Release, Spawn}
 use Rattle.mr_event.specs.Footprints.{both_create, both_spawn, depends, joins_of, lock_of, same_lock, same_number, share_id, spawns, wakes}
 use Rattle.mr_event.specs.Footprint.{Footprint}
-use Rattle.mr_plan.specs.Notes.{event_of}
-use Rattle.mr_plan.specs.Places.{Covers}
+use Rattle.mr_start.specs.PlanNotes.{event_of}
+use Rattle.mr_start.specs.PlanPlaces.{Covers}
 use Rattle.mr_exchange.specs.Spots.{ActsOn, IsCreation, IsSpawn}
 use Rattle.mr_exchange.specs.Swap.{HasOneEvent}
 use Rattle.mr_exchange.proofs.ElementTests.{any_element, none_passes}

@@ -10,10 +10,10 @@ use Rattle.mr_mem.specs.Memory.{Allocation}
 use Rattle.mr_event.specs.Footprints.{depends, spawns, wakes}
 use Rattle.mr_event.specs.Footprint.{Footprint}
 use Rattle.mr_base.proofs.ScriptSwaps.{Apart}
-use Rattle.mr_plan.specs.Notes.{Notes, foot_of}
-use Rattle.mr_plan.specs.Places.{ByteAt, Covers, HeaderOf, StoresAt}
-use Rattle.mr_plan.specs.Queries.{Query, Reply, Shared, answer}
-use Rattle.mr_plan.proofs.MemoryFacts.{IsDead, IsLive, IsThere, MemoryFacts}
+use Rattle.mr_start.specs.PlanNotes.{Notes, foot_of}
+use Rattle.mr_start.specs.PlanPlaces.{ByteAt, Covers, HeaderOf, StoresAt}
+use Rattle.mr_start.specs.PlanQueries.{Query, Reply, Shared, answer}
+use Rattle.mr_start.proofs.PlanMemoryFacts.{IsDead, IsLive, IsThere, MemoryFacts}
 use Rattle.mr_exchange.specs.Meets.{AreNewIn}
 use Rattle.mr_exchange.specs.Spots.{ActsOn, At, EndsThread, Holder, InMemory, IsCreation, IsGoing, IsSpawn, LockCount, Over, Reads, Spot, ThreadCount, WaitsJoin, WaitsLock, Writes, at_spot}
 use Rattle.mr_exchange.specs.Swap.{HasOneEvent}

@@ -5,11 +5,11 @@ use Rattle.std.specs.Prelude.{nat_lt, slice_get}
 use Rattle.mr_base.specs.declared.thread.Status.{Status}
 use Rattle.mr_base.specs.declared.thread.Status.TheVariants.{Enabled, Ended, OnJoin, OnLock}
 use Rattle.mr_mem.specs.Memory.{ranges_of}
-use Rattle.mr_plan.specs.Queries.{Shared}
-use Rattle.mr_plan.specs.Machine.{CreatesLock, CreatesNothing, CreatesThread, Creation, Language, State, needs}
-use Rattle.mr_plan.specs.Legal.{count_of, creation_fault, else_fault, fault, needs_fault, picks_fault, state_fault, status_fault}
+use Rattle.mr_start.specs.PlanQueries.{Shared}
+use Rattle.mr_start.specs.PlanMachine.{CreatesLock, CreatesNothing, CreatesThread, Creation, Language, State, needs}
+use Rattle.mr_start.specs.PlanLegal.{count_of, creation_fault, else_fault, fault, needs_fault, picks_fault, state_fault, status_fault}
 use Rattle.mr_exchange.specs.Meets.{AreNewIn, HasRoom, IsLegalEntry}
-use Rattle.mr_plan.proofs.LegalLaws.{no_faults}
+use Rattle.mr_start.proofs.PlanLegalLaws.{no_faults}
 use Rattle.mr_exchange.proofs.MeetsLaws.{legal_of_meets, meets_of_legal, new_of_memory}
 use Rattle.mr_sched.specs.declared.rule.ScheduleRule.{ScheduleRule}
 use Rattle.mr_sched.specs.declared.rule.ScheduleRule.TheVariants as rule

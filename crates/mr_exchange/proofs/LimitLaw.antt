@@ -14,16 +14,16 @@ use Rattle.mr_event.specs.FootOk.{IsAccessOk, IsEventOk, IsFootOk}
 use Rattle.mr_mem.specs.Memory.{Allocation, Memory, Ranges, is_multiple, ranges_of}
 use Rattle.mr_sched.specs.declared.schedule.Ask.{Ask}
 use Rattle.mr_sched.specs.declared.schedule.Ask.TheVariants.{Address, Waiter}
-use Rattle.mr_plan.specs.EvalTally.{Tally}
-use Rattle.mr_plan.specs.Legal.{count_of, state_fault}
-use Rattle.mr_plan.specs.Limits.{ArePlaced, IsWithin}
-use Rattle.mr_plan.specs.Machine.{Completed, Creation, CreatesLock, CreatesNothing, CreatesThread, Goes, Language, Needs, State, Thread, bare, needs}
-use Rattle.mr_plan.specs.Notes.{Notes, event_of, foot_of, start_notes}
-use Rattle.mr_plan.specs.Queries.{Shared}
-use Rattle.mr_plan.proofs.AccessBounds.{accesses_ok}
-use Rattle.mr_plan.proofs.ElementLaws.{Contains-nil}
-use Rattle.mr_plan.proofs.MemoryFacts.{MemoryFacts, start_facts}
-use Rattle.mr_plan.proofs.TallyGrows.{longer_contains, tally_grows}
+use Rattle.mr_start.specs.PlanEvalTally.{Tally}
+use Rattle.mr_start.specs.PlanLegal.{count_of, state_fault}
+use Rattle.mr_start.specs.PlanLimits.{ArePlaced, IsWithin}
+use Rattle.mr_start.specs.PlanMachine.{Completed, Creation, CreatesLock, CreatesNothing, CreatesThread, Goes, Language, Needs, State, Thread, bare, needs}
+use Rattle.mr_start.specs.PlanNotes.{Notes, event_of, foot_of, start_notes}
+use Rattle.mr_start.specs.PlanQueries.{Shared}
+use Rattle.mr_start.proofs.PlanAccessBounds.{accesses_ok}
+use Rattle.mr_start.proofs.PlanElementLaws.{Contains-nil}
+use Rattle.mr_start.proofs.PlanMemoryFacts.{MemoryFacts, start_facts}
+use Rattle.mr_start.proofs.PlanTallyGrows.{longer_contains, tally_grows}
 use Rattle.mr_exchange.specs.Limits.{LimitLaw}
 use Rattle.mr_exchange.specs.Meets.{AreNewIn, HasRoom, IsLegalEntry, Meets, MeetsAfter, addresses}
 use Rattle.mr_exchange.specs.Spots.{IsCreation, IsSpawn}

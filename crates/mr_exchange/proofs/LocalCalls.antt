@@ -11,15 +11,15 @@ use Rattle.mr_base.specs.declared.thread.Status.TheVariants.{Enabled, Ended, OnJ
 use Rattle.mr_mem.specs.Memory.{Memory}
 use Rattle.mr_base.specs.Script.{Went, on}
 use Rattle.mr_base.proofs.ScriptSwaps.{IsLocal, goes_on}
-use Rattle.mr_sync.specs.Tables.{any_waiting, any_waits, handed, joiners, on_join, on_lock, over, wake}
-use Rattle.mr_plan.specs.EvalMemoryQueries.{MemoryQuery, memory_answer}
-use Rattle.mr_plan.specs.EvalTally.{Tally}
-use Rattle.mr_plan.specs.Notes.{Notes}
-use Rattle.mr_plan.specs.Places.{MemoryPlace}
-use Rattle.mr_plan.specs.Queries.{Await, Finish, NewLock, OfMemory, Print, Query, Reply, Shared, Start, TryLock, Unlock, Waiting, answer, blocked, in_shared, note, tables_of, woke}
-use Rattle.mr_plan.proofs.MemoryLocal.{memory_local}
-use Rattle.mr_plan.proofs.MemoryMoves.{IsMove, MovesAt}
-use Rattle.mr_plan.proofs.WentLaws.{at_outcome}
+use Rattle.mr_start.specs.SyncTables.{any_waiting, any_waits, handed, joiners, on_join, on_lock, over, wake}
+use Rattle.mr_start.specs.PlanEvalMemoryQueries.{MemoryQuery, memory_answer}
+use Rattle.mr_start.specs.PlanEvalTally.{Tally}
+use Rattle.mr_start.specs.PlanNotes.{Notes}
+use Rattle.mr_start.specs.PlanPlaces.{MemoryPlace}
+use Rattle.mr_start.specs.PlanQueries.{Await, Finish, NewLock, OfMemory, Print, Query, Reply, Shared, Start, TryLock, Unlock, Waiting, answer, blocked, in_shared, note, tables_of, woke}
+use Rattle.mr_start.proofs.PlanMemoryLocal.{memory_local}
+use Rattle.mr_start.proofs.PlanMemoryMoves.{IsMove, MovesAt}
+use Rattle.mr_start.proofs.PlanWentLaws.{at_outcome}
 use Rattle.mr_exchange.specs.Spots.{ActsOn, At, Holder, InMemory, IsCreation, IsGoing, IsSpawn, LockCount, Over, Reads, Spot, ThreadCount, WaitsJoin, WaitsLock, Writes, at_spot}
 use Rattle.mr_exchange.proofs.CallAnswers.{IsHeld, handing, held_passes, holds, joining, looking, not_broken, taking, unbroken, unlocked_free, unlocked_free_too, unlocked_given, unlocked_given_too}
 use Rattle.mr_exchange.proofs.ElementTests.{last_is}

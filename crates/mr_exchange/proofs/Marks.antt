@@ -8,7 +8,7 @@ use Rattle.mr_base.specs.declared.thread.Event.TheVariants.{Acquire, CreateLock,
 use Rattle.mr_exchange.specs.MemMemory.{Memory}
 use Rattle.mr_base.specs.Script.{Went, Broken}
 use Rattle.mr_base.proofs.ScriptSwaps.{goes_on}
-use Rattle.mr_sync.specs.Tables.{Tables, acquired, any_waits, ended, holding, joined, joiners, released}
+use Rattle.mr_start.specs.SyncTables.{Tables, acquired, any_waits, ended, holding, joined, joiners, released}
 use Rattle.mr_start.specs.EvalMemoryQueries.{Allocate, Free, MemoryQuery, MemoryReply, Modify, Reading, Write, memory_answer}
 use Rattle.mr_start.specs.EvalTally.{Tally}
 use Rattle.mr_exchange.specs.PlanQueries.{Await, Finish, NewLock, OfMemory, Print, Query, Reply, Shared, Start, TryLock, Unlock, Waiting, answer, blocked, ending, fits, giving, going, in_shared, note, tables_of, telling, with_tables, woke}

@@ -9,12 +9,12 @@ use Rattle.mr_mem.specs.declared.fault.PickFault.TheVariants.{BadAddress, Reused
 use Rattle.mr_mem.specs.Memory.{Memory, Range, Ranges, first_overlapped, is_bad_address, range_fault, ranges_of, reused, with_range}
 use Rattle.mr_sched.specs.declared.schedule.Ask.{Ask}
 use Rattle.mr_sched.specs.declared.schedule.Ask.TheVariants.{Address, Waiter}
-use Rattle.mr_sync.specs.Tables.{on_lock}
-use Rattle.mr_plan.specs.EvalTally.{Tally}
-use Rattle.mr_plan.specs.Legal.{Fault, address_fault, else_fault, fault, picks_fault}
-use Rattle.mr_plan.proofs.ElementLaws.{Contains-nil}
-use Rattle.mr_plan.proofs.LegalLaws.{no_faults}
-use Rattle.mr_plan.proofs.MemoryFacts.{MemoryFacts, Ranged}
+use Rattle.mr_start.specs.SyncTables.{on_lock}
+use Rattle.mr_start.specs.PlanEvalTally.{Tally}
+use Rattle.mr_start.specs.PlanLegal.{Fault, address_fault, else_fault, fault, picks_fault}
+use Rattle.mr_start.proofs.PlanElementLaws.{Contains-nil}
+use Rattle.mr_start.proofs.PlanLegalLaws.{no_faults}
+use Rattle.mr_start.proofs.PlanMemoryFacts.{MemoryFacts, Ranged}
 use Rattle.mr_exchange.specs.Meets.{AreApart, AreNew, AreNewIn, AreWaiting, Exchanged, IsApartFrom, IsClear, IsTaken, Meets, MeetsAfter, TakesAlso, TakesOnly, addresses, ranges_after, waiters}
 use Rattle.mr_exchange.proofs.ElementTests.{front_cases, here, there}
 use Rattle.mr_exchange.proofs.RangeLists.{put_from, put_has, put_keeps, range_from, range_there}

@@ -12,7 +12,7 @@ use Rattle.std.specs.declared.cmp.Ordering.TheVariants.{Less, Equal, Greater}
 use Rattle.mr_base.specs.declared.byte.AllocId.{AllocId}
 use Rattle.mr_mem.specs.Memory.{Allocation, Memory, Range, Ranges, id_cmp, range_of, ranges_of}
 use Rattle.mr_mem.proofs.Identities.{id_exact, id_total, is_less}
-use Rattle.mr_plan.proofs.ElementLaws.{Contains-nil, Contains-one}
+use Rattle.mr_start.proofs.PlanElementLaws.{Contains-nil, Contains-one}
 use Rattle.mr_exchange.proofs.ElementTests.{from_map, front_cases, here, in_map, there}
 
 -- ---- one range more

@@ -3,8 +3,8 @@ use Rattle.std.proofs.Common.{◌≡◌, ℕ, zero, suc, ◌+◌, ◌<◌, ◌�
 use Rattle.std.specs.List.{slice_index}
 use Rattle.std.specs.List.Sorted.{IsStrictlyIncreasing}
 use Rattle.mr_base.specs.declared.thread.Status.{Status}
-use Rattle.mr_sync.specs.Tables.{joiners, on_join}
-use Rattle.mr_plan.proofs.ElementLaws.{Contains-nil}
+use Rattle.mr_start.specs.SyncTables.{joiners, on_join}
+use Rattle.mr_start.proofs.PlanElementLaws.{Contains-nil}
 use Rattle.mr_exchange.proofs.ElementTests.{front_cases, here}
 
 pub rising_none : IsStrictlyIncreasing []

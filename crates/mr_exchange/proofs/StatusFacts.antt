@@ -9,11 +9,11 @@ use Rattle.mr_base.specs.declared.thread.Event.{Event}
 use Rattle.mr_base.specs.declared.thread.Event.TheVariants.{Acquire, CreateLock, Join, Release, Spawn}
 use Rattle.mr_base.specs.declared.thread.Status.{Status}
 use Rattle.mr_base.specs.declared.thread.Status.TheVariants.{Enabled, Ended, OnJoin, OnLock}
-use Rattle.mr_sync.specs.Tables.{joiners, wake}
-use Rattle.mr_plan.specs.Notes.{Notes, start_notes}
-use Rattle.mr_plan.specs.Queries.{Shared}
-use Rattle.mr_plan.proofs.ElementLaws.{Contains-nil}
-use Rattle.mr_plan.proofs.TallyGrows.{tally_grows}
+use Rattle.mr_start.specs.SyncTables.{joiners, wake}
+use Rattle.mr_start.specs.PlanNotes.{Notes, start_notes}
+use Rattle.mr_start.specs.PlanQueries.{Shared}
+use Rattle.mr_start.proofs.PlanElementLaws.{Contains-nil}
+use Rattle.mr_start.proofs.PlanTallyGrows.{tally_grows}
 use Rattle.mr_exchange.proofs.Changes.{Change, at_memory, awaits_end, awaits_lock, frees_lock, gives_lock, new_lock, new_thread, own_end, prints, sees_end, sees_lock, takes_lock}
 use Rattle.mr_exchange.proofs.ElementTests.{last_is}
 use Rattle.mr_exchange.proofs.PushedLists.{push_here, push_there, set_same}

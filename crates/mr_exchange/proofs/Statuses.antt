@@ -6,8 +6,8 @@ use Rattle.std.proofs.lemmas.Bool.{cases_eq, eq-eqb, eqb-true, ne_eqb}
 use Rattle.std.proofs.lemmas.Option.{slice_get-map, slice_get_past}
 use Rattle.mr_base.specs.declared.thread.Status.{Status}
 use Rattle.mr_base.specs.declared.thread.Status.TheVariants.{Enabled, OnJoin, OnLock, Ended}
-use Rattle.mr_sync.specs.Tables.{any_waiting, joiners, on_join, on_lock, over, wake}
-use Rattle.mr_plan.proofs.MemoryMoves.{IsMove}
+use Rattle.mr_start.specs.SyncTables.{any_waiting, joiners, on_join, on_lock, over, wake}
+use Rattle.mr_start.proofs.PlanMemoryMoves.{IsMove}
 use Rattle.mr_exchange.proofs.ElementTests.{here, there}
 use Rattle.mr_exchange.proofs.PushedLists.{push_here, push_there, set_same}
 use Rattle.mr_base.proofs.Lists.{set_there}

@@ -8,11 +8,11 @@ use Rattle.mr_base.specs.declared.thread.Event.TheVariants.{Acquire, CreateLock,
 use Rattle.mr_base.specs.declared.thread.Status.{Status}
 use Rattle.mr_base.specs.declared.thread.Status.TheVariants.{Enabled}
 use Rattle.mr_base.proofs.ScriptSwaps.{IsGrowing, IsKept}
-use Rattle.mr_plan.specs.Notes.{Notes}
-use Rattle.mr_plan.specs.Queries.{Query, Reply, Shared, answer}
-use Rattle.mr_plan.proofs.ListPlaces.{same_by_places}
-use Rattle.mr_plan.proofs.MemoryLocal.{same_memory}
-use Rattle.mr_plan.proofs.TallyGrows.{Longer, TallyGrows, grows_same, longer_any, longer_contains, longer_same, reads_grow, tally_grows, writes_grow}
+use Rattle.mr_start.specs.PlanNotes.{Notes}
+use Rattle.mr_start.specs.PlanQueries.{Query, Reply, Shared, answer}
+use Rattle.mr_start.proofs.PlanListPlaces.{same_by_places}
+use Rattle.mr_start.proofs.PlanMemoryLocal.{same_memory}
+use Rattle.mr_start.proofs.PlanTallyGrows.{Longer, TallyGrows, grows_same, longer_any, longer_contains, longer_same, reads_grow, tally_grows, writes_grow}
 use Rattle.mr_exchange.specs.Spots.{ActsOn, At, EndsThread, Holder, InMemory, IsCreation, IsGoing, IsSpawn, LockCount, Over, Reads, Spot, ThreadCount, WaitsJoin, WaitsLock, Writes, at_spot}
 use Rattle.mr_exchange.proofs.Changes.{Change, at_memory, awaits_end, awaits_lock, change, frees_lock, gives_lock, new_lock, new_thread, own_end, prints, sees_end, sees_lock, takes_lock}
 use Rattle.mr_exchange.proofs.PushedLists.{push_there, set_same}

@@ -9,11 +9,11 @@ use Rattle.mr_base.specs.declared.thread.Status.TheVariants.{Enabled}
 use Rattle.mr_event.specs.Footprints.{depends, wakes}
 use Rattle.mr_mem.specs.Memory.{Allocation, id_cmp}
 use Rattle.mr_base.specs.Script.{Ask, Done, Went, run}
-use Rattle.mr_plan.specs.Machine.{Aborts, Completed, CreatesLock, CreatesNothing, Exits, Flow, Goes, Language, Plan, State, bare, thread_of}
-use Rattle.mr_plan.specs.Notes.{Notes, accesses_in, start_notes}
-use Rattle.mr_plan.specs.Queries.{NewLock, Print, Shared, StepScript, answer, note}
-use Rattle.mr_plan.proofs.ElementLaws.{Contains-nil, Contains-one}
-use Rattle.mr_plan.proofs.WentLaws.{at_outcome}
+use Rattle.mr_start.specs.PlanMachine.{Aborts, Completed, CreatesLock, CreatesNothing, Exits, Flow, Goes, Language, Plan, State, bare, thread_of}
+use Rattle.mr_start.specs.PlanNotes.{Notes, accesses_in, start_notes}
+use Rattle.mr_start.specs.PlanQueries.{NewLock, Print, Shared, StepScript, answer, note}
+use Rattle.mr_start.proofs.PlanElementLaws.{Contains-nil, Contains-one}
+use Rattle.mr_start.proofs.PlanWentLaws.{at_outcome}
 use Rattle.mr_exchange.specs.Spots.{IsCreation, IsSpawn}
 use Rattle.mr_exchange.specs.Swap.{AreExchanged, IsSane, IsTelling, IsWaiter, StepTold}
 use Rattle.mr_exchange.proofs.ElementTests.{any_from, here}

@@ -8,13 +8,13 @@ use Rattle.mr_mem.specs.Memory.{ranges_of}
 use Rattle.mr_sched.specs.declared.schedule.Ask.TheVariants.{Waiter}
 use Rattle.mr_base.specs.Script.{Went, run}
 use Rattle.mr_base.proofs.ScriptSwaps.{Apart, Follows, Grows, Swapped, follows, frame, grows, swap}
-use Rattle.mr_sync.specs.Tables.{on_lock}
-use Rattle.mr_plan.specs.Legal.{count_of, state_fault}
-use Rattle.mr_plan.specs.Machine.{Completed, Creation, CreatesLock, CreatesNothing, CreatesThread, Goes, Language, Needs, State, Thread, bare, needs}
-use Rattle.mr_plan.specs.Notes.{Notes, start_notes}
-use Rattle.mr_plan.specs.Runs.{foot_in}
-use Rattle.mr_plan.specs.Queries.{Query, Reply, Shared, StepScript, answer}
-use Rattle.mr_plan.proofs.MemoryFacts.{MemoryFacts}
+use Rattle.mr_start.specs.SyncTables.{on_lock}
+use Rattle.mr_start.specs.PlanLegal.{count_of, state_fault}
+use Rattle.mr_start.specs.PlanMachine.{Completed, Creation, CreatesLock, CreatesNothing, CreatesThread, Goes, Language, Needs, State, Thread, bare, needs}
+use Rattle.mr_start.specs.PlanNotes.{Notes, start_notes}
+use Rattle.mr_start.specs.PlanRuns.{foot_in}
+use Rattle.mr_start.specs.PlanQueries.{Query, Reply, Shared, StepScript, answer}
+use Rattle.mr_start.proofs.PlanMemoryFacts.{MemoryFacts}
 use Rattle.mr_exchange.specs.Meets.{AreNewIn, Exchanged, HasRoom, IsLegalEntry, Meets}
 use Rattle.mr_exchange.specs.Spots.{At, IsGoing, LockCount, Reads, Spot, ThreadCount, WaitsLock, Writes, at_spot}
 use Rattle.mr_exchange.specs.Swap.{AreExchanged, IsCreated, IsSane, IsStarted, IsTelling, IsWaiter, StepTold, SwapLaw}

@@ -6,7 +6,7 @@ use Rattle.mr_ast.specs.declared.program.Program.{Program}
 use Rattle.mr_sched.specs.declared.chooser.Chooser.{Chooser}
 use Rattle.mr_sched.specs.declared.schedule.Entry.{Entry}
 use Rattle.mr_typing.specs.Walk.{WellFormed}
-use Rattle.mr_plan.specs.Runs.{AreLegal, Config, machine_step}
+use Rattle.mr_step.specs.PlanRuns.{AreLegal, Config, machine_step}
 use Rattle.mr_start.specs.FrameFits.{IsLook}
 use Rattle.mr_start.specs.FrameFrames.{Look}
 use Rattle.mr_start.specs.SoundState.{IsSoundConfig}

@@ -3,8 +3,8 @@ use Rattle.std.proofs.Common.{◌≡◌, ℕ, suc, ◌+◌, ◌<◌, ◌≤◌, 
 use Rattle.std.proofs.Math.Seq.{drop-cons}
 use Rattle.mr_sched.specs.declared.chooser.Chooser.{Chooser}
 use Rattle.mr_sched.specs.declared.schedule.Entry.{Entry}
-use Rattle.mr_plan.specs.Runs.{Config, after}
-use Rattle.mr_plan.proofs.RunLaws.{completed_by_step}
+use Rattle.mr_step.specs.PlanRuns.{Config, after}
+use Rattle.mr_step.proofs.PlanRunLaws.{completed_by_step}
 use Rattle.mr_start.specs.FrameFrames.{Look}
 use Rattle.mr_start.specs.Steps.{Own, thread_step}
 use Rattle.mr_start.specs.Runs.{program_fault, program_step}

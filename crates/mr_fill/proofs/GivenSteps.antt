@@ -4,18 +4,18 @@ use Rattle.std.specs.Prelude.{Contains, slice_get, if◌then◌else◌}
 use Rattle.std.proofs.lemmas.Option.{same_Some}
 use Rattle.mr_ast.specs.declared.program.Program.{Program}
 use Rattle.mr_base.specs.declared.thread.Status.TheVariants.{Enabled}
-use Rattle.mr_mem.specs.Memory.{ranges_of}
+use Rattle.mr_start.specs.MemMemory.{ranges_of}
 use Rattle.mr_sched.specs.Rules.{code_of}
 use Rattle.mr_sched.specs.declared.chooser.Chooser.{Chooser}
 use Rattle.mr_sched.specs.declared.schedule.Ask.{Ask}
 use Rattle.mr_sched.specs.declared.schedule.Entry.{Entry}
-use Rattle.mr_sync.specs.Tables.{is_enabled}
+use Rattle.mr_start.specs.SyncTables.{is_enabled}
 use Rattle.mr_typing.specs.Walk.{WellFormed}
-use Rattle.mr_plan.specs.Legal.{Fault, count_of, creation_fault, else_fault, fault, needs_fault, picks_fault, state_fault, status_fault}
-use Rattle.mr_plan.specs.Machine.{Bare, Completed, Goes, IllFormedStep, Needs, State, Stops, bare, needs}
-use Rattle.mr_plan.specs.Notes.{Notes}
-use Rattle.mr_plan.specs.Runs.{Config, after_bare, entry_fault, fault_in, is_running, machine_step, stepped_from}
-use Rattle.mr_plan.proofs.ElementLaws.{Contains-nil}
+use Rattle.mr_step.specs.PlanLegal.{Fault, count_of, creation_fault, else_fault, fault, needs_fault, picks_fault, state_fault, status_fault}
+use Rattle.mr_step.specs.PlanMachine.{Bare, Completed, Goes, IllFormedStep, Needs, State, Stops, bare, needs}
+use Rattle.mr_step.specs.PlanNotes.{Notes}
+use Rattle.mr_step.specs.PlanRuns.{Config, after_bare, entry_fault, fault_in, is_running, machine_step, stepped_from}
+use Rattle.mr_step.proofs.PlanElementLaws.{Contains-nil}
 use Rattle.mr_start.specs.FrameFits.{IsLook}
 use Rattle.mr_start.specs.FrameFrames.{Look}
 use Rattle.mr_start.specs.Steps.{Own, thread_step}
@@ -23,10 +23,10 @@ use Rattle.mr_start.proofs.RunSound.{entry_sound}
 use Rattle.mr_start.specs.SoundState.{IsSoundConfig, SoundState}
 use Rattle.mr_step.proofs.ExchangeSane.{sound_is_sane}
 use Rattle.mr_step.proofs.ExchangeTelling.{thread_step_tells}
-use Rattle.mr_exchange.specs.Meets.{AreNewIn, IsTaken, addresses}
-use Rattle.mr_exchange.proofs.BareSteps.{needs_are, taken, whole, whole_run}
-use Rattle.mr_exchange.proofs.MeetsLaws.{legal_of_meets, step_only}
-use Rattle.mr_exchange.proofs.StepRuns.{memory_of}
+use Rattle.mr_step.specs.SwapMeets.{AreNewIn, IsTaken, addresses}
+use Rattle.mr_step.proofs.SwapBareSteps.{needs_are, taken, whole, whole_run}
+use Rattle.mr_step.proofs.SwapMeetsLaws.{legal_of_meets, step_only}
+use Rattle.mr_step.proofs.SwapStepRuns.{memory_of}
 use Rattle.mr_step.proofs.EntryLaws.{enabled_is}
 use Rattle.mr_auto.specs.Drawing.{Next, Picked}
 use Rattle.mr_auto.specs.Drawn.{EndsBy, LiesBehind}

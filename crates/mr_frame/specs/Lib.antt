@@ -24,11 +24,14 @@ pub use Rattle.mr_eval.specs.Shapes as EvalShapes
 pub use Rattle.mr_eval.specs.Sound as EvalSound
 pub use Rattle.mr_eval.specs.Tally as EvalTally
 pub use Rattle.mr_mem.specs.Memory as MemMemory
+pub use Rattle.mr_plan.specs.EvalMemoryQueries as PlanEvalMemoryQueries
+pub use Rattle.mr_plan.specs.EvalTally as PlanEvalTally
 pub use Rattle.mr_plan.specs.EventFootprint
 pub use Rattle.mr_plan.specs.Legal as PlanLegal
 pub use Rattle.mr_plan.specs.Limits as PlanLimits
 pub use Rattle.mr_plan.specs.Machine as PlanMachine
 pub use Rattle.mr_plan.specs.Notes as PlanNotes
+pub use Rattle.mr_plan.specs.Places as PlanPlaces
 pub use Rattle.mr_plan.specs.Queries as PlanQueries
 pub use Rattle.mr_plan.specs.Runs as PlanRuns
 pub use Rattle.mr_plan.specs.Storage as PlanStorage

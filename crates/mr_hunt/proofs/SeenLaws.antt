@@ -8,8 +8,8 @@ use Rattle.mr_event.specs.declared.footprint.Pair.{Pair}
 use Rattle.mr_sched.specs.declared.schedule.Schedule.{Schedule}
 use Rattle.mr_step.specs.PlanRuns.{Config, Printed}
 use Rattle.mr_step.specs.Standing.{Standing}
-use Rattle.mr_start.specs.Runs.{run_of, steps_of}
-use Rattle.mr_start.specs.Steps.{Own}
+use Rattle.mr_auto.specs.StartRuns.{run_of, steps_of}
+use Rattle.mr_auto.specs.StartSteps.{Own}
 use Rattle.mr_run.specs.Runs.{IsRun}
 use Rattle.mr_auto.specs.Drawing.{drawn_schedule}
 use Rattle.mr_hunt.specs.declared.ends.End.{End}

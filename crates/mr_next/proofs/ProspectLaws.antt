@@ -2,8 +2,8 @@
 use Rattle.std.proofs.Common.{◌≡◌, ℕ, ◌+◌, refl, sym, ap, ◌∙◌, [], ◌∷◌, ◌++◌, length, map, Option, Some, None, zero-add}
 use Rattle.std.specs.List.{range_with_len}
 use Rattle.std.proofs.lemmas.List.{map-append}
-use Rattle.mr_exchange.proofs.Lists.{range_with_len-parts}
-use Rattle.mr_plan.specs.Machine.{State}
+use Rattle.mr_step.proofs.ExchangeLists.{range_with_len-parts}
+use Rattle.mr_step.specs.PlanMachine.{State}
 use Rattle.mr_step.specs.FrameFrames.{Look}
 use Rattle.mr_step.specs.ThreadSteps.{Own}
 use Rattle.mr_next.specs.Prospects.{prospect_in, prospects_in}

@@ -4,11 +4,11 @@ use Rattle.std.specs.Prelude.{slice_get}
 use Rattle.std.proofs.lemmas.Option.{same_Some}
 use Rattle.std.proofs.lemmas.List.{take_more}
 use Rattle.mr_ast.specs.declared.program.Program.{Program}
-use Rattle.mr_event.specs.Footprint.{Footprint}
+use Rattle.mr_run.specs.EventFootprint.{Footprint}
 use Rattle.mr_sched.specs.declared.schedule.Entry.{Entry}
 use Rattle.mr_sched.specs.declared.schedule.Schedule.{Schedule}
-use Rattle.mr_plan.specs.Legal.{Fault}
-use Rattle.mr_plan.specs.Runs.{AreLegal, Config, after}
+use Rattle.mr_step.specs.PlanLegal.{Fault}
+use Rattle.mr_step.specs.PlanRuns.{AreLegal, Config, after}
 use Rattle.mr_step.specs.FrameFrames.{Look}
 use Rattle.mr_step.specs.ThreadSteps.{Own, thread_step}
 use Rattle.mr_step.specs.StartRuns.{PlacedFault, at_line, entries_fault, program_fault, program_step, run_of, schedule_fault}

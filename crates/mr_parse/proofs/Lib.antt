@@ -1,3 +1,4 @@
 pub mod FunctionLaws
 pub mod ParseLaws
 pub mod Walk
+pub use Rattle.mr_grammar.proofs.ParsingLaws as GrammarParsingLaws

@@ -12,8 +12,8 @@ use Rattle.mr_ast.specs.Writing.{Writing}
 use Rattle.mr_ast.specs.ProgramGrammar.{inside_function, stmt_form, term_form, block_form, function_form}
 use Rattle.mr_ast.specs.Spelled.{Spelled}
 use Rattle.mr_lex.specs.Tokens.{Lexeme}
-use Rattle.mr_words.specs.Places.{numbered, words_from, words_of}
-use Rattle.mr_words.specs.Defined.{knowing}
+use Rattle.mr_grammar.specs.WordsPlaces.{numbered, words_from, words_of}
+use Rattle.mr_grammar.specs.WordsDefined.{knowing}
 use Rattle.mr_grammar.specs.Denotes.{Denotes, IsFine, definitions_in, words_in}
 use Rattle.mr_grammar.proofs.Walk.Rows.{fine_parts}
 use Rattle.mr_places.specs.Places.{behind, is_end, ends_of_block, ends_of_blocks, ends_of_function, ends_of_functions, ends_before, words_of_head, from_place, BeginWith}

@@ -3,7 +3,7 @@ use Rattle.std.proofs.Common.{◌≡◌, ℕ, zero, suc, ◌+◌, ◌-◌, Bool,
 use Rattle.std.specs.List.{sum_by}
 use Rattle.std.proofs.lemmas.List.{append_assoc}
 use Rattle.std.proofs.lemmas.List.Sums.{sum_by-cons}
-use Rattle.mr_base.proofs.Options.{some_is}
+use Rattle.mr_grammar.proofs.BaseOptions.{some_is}
 use Rattle.mr_ast.specs.declared.program.Stmt.{Stmt}
 use Rattle.mr_ast.specs.declared.program.Term.{Term}
 use Rattle.mr_ast.specs.Forms.{Word, Mark, Cases, Either, EachSpelled}

@@ -2,7 +2,7 @@
 use Rattle.std.proofs.Common.{◌≡◌, ap, List, ℕ, ◌⊎◌, inl, inr, [], subst, sym, ◌∙◌}
 use Rattle.std.specs.Prelude.{Err, Ok, Option, None, Result, Some}
 use Rattle.mr_ast.specs.declared.program.Program.{Program}
-use Rattle.mr_grammar.specs.Parsing.{parsed}
+use Rattle.mr_places.specs.GrammarParsing.{parsed}
 use Rattle.mr_lex.specs.declared.token.TextFault.{TextFault}
 use Rattle.mr_typing.specs.declared.fault.FormFault.{FormFault}
 use Rattle.mr_typing.specs.Walk.{WellFormed}

@@ -5,9 +5,9 @@ use Rattle.mr_ast.specs.declared.program.Program.{Program}
 use Rattle.mr_lex.specs.Reading.{lexed}
 use Rattle.mr_lex.specs.Tokens.{Lexeme}
 use Rattle.mr_lex.specs.declared.token.TextFault.{TextFault}
-use Rattle.mr_grammar.specs.Faults.{OfTokens}
-use Rattle.mr_grammar.specs.Parsing.{parsed}
-use Rattle.mr_grammar.proofs.ParsingLaws.{fault_parsed}
+use Rattle.mr_places.specs.GrammarFaults.{OfTokens}
+use Rattle.mr_places.specs.GrammarParsing.{parsed}
+use Rattle.mr_places.proofs.GrammarParsingLaws.{fault_parsed}
 use Rattle.mr_typing.specs.declared.fault.FormFault.{FormFault}
 use Rattle.mr_typing.specs.Walk.{WellFormed}
 use Rattle.mr_event.specs.Footprint.{Footprint}

@@ -5,12 +5,12 @@ use Rattle.std.specs.Prelude.{◌==◌, nat_lt, if◌then◌else◌, None, Some,
 use Rattle.mr_ast.specs.declared.program.Program.{Program}
 use Rattle.mr_io.specs.Files.{Contents}
 use Rattle.mr_lex.specs.declared.token.TextFault.{TextFault}
-use Rattle.mr_grammar.specs.Parsing.{parsed}
+use Rattle.mr_places.specs.GrammarParsing.{parsed}
 use Rattle.mr_sched.specs.Reading.{Fault as TextOf, schedule_of}
 use Rattle.mr_sched.specs.declared.schedule.Schedule.{Schedule}
 use Rattle.mr_sched.specs.declared.version.Read.{Read}
 use Rattle.mr_sched.specs.declared.version.Version.{Version}
-use Rattle.mr_plan.specs.Legal.{Fault}
+use Rattle.mr_step.specs.PlanLegal.{Fault}
 use Rattle.mr_start.specs.Runs.{PlacedFault, schedule_fault}
 use Rattle.mr_start.specs.Start.{start_fault}
 use Rattle.mr_typing.specs.declared.fault.FormFault.{FormFault}

@@ -3,14 +3,14 @@ use Rattle.std.specs.Prelude.{ℕ, ◌^◌, Bool, true, false, List, [], ◌++�
 use Rattle.std.specs.Prelude.{if◌then◌else◌}
 use Rattle.mr_ast.specs.declared.program.Program.{Program}
 use Rattle.mr_io.specs.Files.{Contents}
-use Rattle.mr_grammar.specs.Parsing.{parsed}
+use Rattle.mr_places.specs.GrammarParsing.{parsed}
 use Rattle.mr_sched.specs.declared.schedule.Schedule.{Schedule}
 use Rattle.mr_sched.specs.declared.version.Read.{Read}
 use Rattle.mr_sched.specs.declared.version.Version.{Version}
 use Rattle.mr_start.specs.Runs.{run_of, schedule_fault, steps_of}
 use Rattle.mr_start.specs.Start.{ask_of, pieces}
 use Rattle.mr_typing.specs.Walk.{faults_of}
-use Rattle.mr_report.specs.Report.{line}
+use Rattle.mr_listing.specs.ReportReport.{line}
 use Rattle.mr_input.specs.declared.refusal.Refusal.TheVariants as refusal
 use Rattle.mr_input.specs.Answer.{Answer, form_or, refused, told}
 use Rattle.mr_input.specs.Inputs.{denoted, schedule_in}

@@ -9,7 +9,7 @@ use Rattle.mr_plan.specs.Queries.{answer}
 use Rattle.mr_base.specs.Script.{run}
 use Rattle.mr_frame.specs.declared.look.Look.{Look as KeptLook}
 use Rattle.mr_frame.specs.Kept.{look_of}
-use Rattle.mr_start.specs.Steps.{Own, own_step, thread_step}
+use Rattle.mr_exchange.specs.StartSteps.{Own, own_step, thread_step}
 use Rattle.mr_turn.specs.Asking.{step_needs}
 use Rattle.mr_turn.specs.Turning.{planned}
 use Rattle.mr_step.specs.declared.progress.Progress.{Progress}

@@ -15,7 +15,7 @@ use Rattle.mr_plan.specs.Notes.{Notes, start_notes}
 use Rattle.mr_plan.specs.Queries.{Shared}
 use Rattle.mr_plan.specs.Runs.{Config, after_bare, entry_fault, fault_in, foot_from, foot_in, foot_of_bare, is_running, machine_step, printed_by, stepped_from}
 use Rattle.mr_frame.specs.Frames.{Look}
-use Rattle.mr_start.specs.Steps.{Own, thread_step}
+use Rattle.mr_exchange.specs.StartSteps.{Own, thread_step}
 use Rattle.mr_turn.specs.Turning.{picks_break, planned, turned}
 use Rattle.mr_sched.specs.declared.rule.ScheduleRule.TheVariants as rule
 

@@ -5,12 +5,12 @@ use Rattle.mr_typing.specs.Walk.{WellFormed}
 use Rattle.mr_plan.specs.Limits.{AreWithin}
 use Rattle.mr_plan.specs.Runs.{Config}
 use Rattle.mr_frame.specs.Frames.{Look}
-use Rattle.mr_start.specs.Steps.{Own}
+use Rattle.mr_exchange.specs.StartSteps.{Own}
 use Rattle.mr_turn.specs.Began.{Start}
-use Rattle.mr_start.specs.Begin.{IsStart}
-use Rattle.mr_start.specs.Start.{start_fault}
-use Rattle.mr_start.proofs.StartLimits.{start_within}
-use Rattle.mr_start.proofs.StartSound.{start_look, start_sound}
+use Rattle.mr_exchange.specs.StartBegin.{IsStart}
+use Rattle.mr_exchange.specs.StartStart.{start_fault}
+use Rattle.mr_exchange.proofs.StartStartLimits.{start_within}
+use Rattle.mr_exchange.proofs.StartStartSound.{start_look, start_sound}
 use Rattle.mr_step.specs.First.{first_config}
 use Rattle.mr_step.specs.Kept.{IsSound}
 

@@ -7,8 +7,8 @@ use Rattle.mr_event.specs.FootOk.{IsFootOk}
 use Rattle.mr_event.specs.Order.{no_step}
 use Rattle.mr_sched.specs.declared.schedule.Entry.{Entry}
 use Rattle.mr_plan.specs.Runs.{Config, foot_from, has_rule}
-use Rattle.mr_start.specs.Steps.{Own, thread_step}
-use Rattle.mr_start.specs.Runs.{program_fault, program_step}
+use Rattle.mr_exchange.specs.StartSteps.{Own, thread_step}
+use Rattle.mr_exchange.specs.StartRuns.{program_fault, program_step}
 use Rattle.mr_step.specs.declared.fault.Turn.{Turn}
 use Rattle.mr_step.specs.Answers.{FailsToHand, GoAnswer, Hands, RunsOut, StepAnswer, Steps, completed, stopped, turn_of}
 use Rattle.mr_step.specs.Standing.{Standing}

@@ -7,7 +7,7 @@ use Rattle.mr_plan.specs.Machine.{thread_of}
 use Rattle.mr_plan.specs.Runs.{Config}
 use Rattle.mr_frame.specs.declared.stack.Stack.{Stack as KeptStack}
 use Rattle.mr_frame.specs.Kept.{stack_of}
-use Rattle.mr_start.specs.Steps.{Own}
+use Rattle.mr_exchange.specs.StartSteps.{Own}
 use Rattle.mr_turn.specs.Began.{StartFault}
 use Rattle.mr_turn.specs.Began as refused
 use Rattle.mr_step.specs.declared.fault.StepFault.{StepFault}

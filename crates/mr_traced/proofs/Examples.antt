@@ -1,7 +1,7 @@
 -- A file of places, and two races at one pair of places.
 use Rattle.std.proofs.Common.{◌≡◌, ℕ, List, [], ◌∷◌, ◌++◌, Ok, Err, refl}
 use Rattle.std.specs.Prelude.{codes, None, Some}
-use Rattle.mr_ast.specs.Words.{is_number}
+use Rattle.mr_words.specs.AstWords.{is_number}
 use Rattle.mr_event.specs.declared.footprint.Pair.{Pair}
 use Rattle.mr_traced.specs.declared.form.Site.{Site}
 use Rattle.mr_traced.specs.declared.refusal.PlacesFault.TheVariants as fault

@@ -18,7 +18,7 @@ use Rattle.mr_typing.specs.Known.{are_overflow_fields, is_overflow_layer}
 use Rattle.mr_typing.proofs.KindLaws.{same_type_sym, same_with_bool, same_with_fn_ptr, same_with_int, same_with_raw}
 use Rattle.mr_ast.proofs.TypeInduction.{type_made}
 use Rattle.mr_typing.proofs.SameTypeLaws.{same_type_answer, same_type_equal, same_type_itself}
-use Rattle.mr_base.proofs.Comparisons.{eq_from, eq_itself}
+use Rattle.mr_layout.proofs.BaseComparisons.{eq_from, eq_itself}
 
 -- ---- types without parts
 

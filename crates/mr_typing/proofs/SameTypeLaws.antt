@@ -21,7 +21,7 @@ use Rattle.mr_ast.proofs.TypeInduction.{type_made}
 use Rattle.mr_layout.specs.EnumRules.{same_num}
 use Rattle.mr_layout.proofs.TreeOk.{same_num_equal}
 use Rattle.mr_typing.specs.SameTypes.{same_bool, same_cases, same_chunks, same_fields, same_int, same_layer, same_tags, same_tree, same_tree_layer, same_type, same_variant_layer, same_variants}
-use Rattle.mr_base.proofs.Comparisons.{eq_from, eq_itself}
+use Rattle.mr_layout.proofs.BaseComparisons.{eq_from, eq_itself}
 
 -- ---- numbers and lists
 

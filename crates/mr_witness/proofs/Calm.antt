@@ -5,10 +5,10 @@ use Rattle.mr_base.specs.declared.reached.Reached.{Reached}
 use Rattle.mr_base.specs.declared.reason.Reason.{Reason}
 use Rattle.mr_base.specs.declared.reason.Reason.TheVariants.{DataRace}
 use Rattle.mr_base.specs.Script.{Ask, Broken, Done, IllFormed, Outcome, Refused, Script, Undefined, Went, on, run, ◌>>=◌}
-use Rattle.mr_mem.proofs.SpeakingLaws.{SpeakResult, Speaks}
+use Rattle.mr_eval.proofs.MemSpeakingLaws.{SpeakResult, Speaks}
 use Rattle.mr_eval.specs.MemoryQueries.{MemoryScript, reading_part}
 use Rattle.mr_eval.specs.Reads.{ReadScript, answered}
-use Rattle.mr_start.specs.PlanQueries.{StepScript, memory_part}
+use Rattle.mr_exchange.specs.PlanQueries.{StepScript, memory_part}
 
 -- whether a reason is the data race
 abbrev pub is_race : Reason → Bool

@@ -25,7 +25,7 @@ use Rattle.mr_witness.specs.PlanRuns.{AreLegal, Config, after, feet, machine_ste
 use Rattle.mr_witness.specs.FrameFits.{IsLook}
 use Rattle.mr_witness.specs.FrameFrames.{Look}
 use Rattle.mr_witness.specs.ThreadSoundState.{SoundState}
-use Rattle.mr_witness.specs.ThreadSteps.{Own, thread_step}
+use Rattle.mr_witness.specs.StartSteps.{Own, thread_step}
 use Rattle.mr_exchange.specs.StartRuns.{Legal, run_of, steps_of}
 use Rattle.mr_exchange.specs.StartStart.{look_of, start_config}
 use Rattle.mr_exchange.proofs.StartStartSound.{start_look, start_sound}

@@ -14,7 +14,7 @@ use Rattle.mr_sched.specs.declared.schedule.Schedule.{Schedule}
 use Rattle.mr_witness.specs.TypingWalk.{WellFormed}
 use Rattle.mr_witness.specs.PlanMachine.{State}
 use Rattle.mr_witness.specs.ThreadSoundState.{SoundState}
-use Rattle.mr_witness.specs.ThreadSteps.{Own, thread_step}
+use Rattle.mr_witness.specs.StartSteps.{Own, thread_step}
 use Rattle.mr_exchange.specs.StartRuns.{Legal, run_of, steps_of}
 use Rattle.mr_exchange.specs.StartStart.{look_of, start_config}
 use Rattle.mr_exchange.proofs.StartStartSound.{start_look, start_sound}

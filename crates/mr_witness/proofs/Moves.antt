@@ -16,7 +16,7 @@ use Rattle.mr_witness.specs.PlanRuns.{foot_in}
 use Rattle.mr_witness.specs.FrameFits.{IsLook}
 use Rattle.mr_witness.specs.FrameFrames.{Look}
 use Rattle.mr_witness.specs.ThreadSoundState.{SoundState}
-use Rattle.mr_witness.specs.ThreadSteps.{Own, thread_step}
+use Rattle.mr_witness.specs.StartSteps.{Own, thread_step}
 use Rattle.mr_exchange.specs.Swap.{IsSane, SwapLaw}
 use Rattle.mr_exchange.specs.Witness.{entry_at}
 use Rattle.mr_exchange.proofs.Exchanged.{NotesThread, sound_then}

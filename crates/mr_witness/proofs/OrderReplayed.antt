@@ -8,7 +8,7 @@ use Rattle.mr_event.specs.Footprint.{Footprint}
 use Rattle.mr_event.specs.Order.{step_at}
 use Rattle.mr_exchange.specs.Trace.{Runs}
 use Rattle.mr_sched.specs.declared.schedule.Entry.{Entry}
-use Rattle.mr_sync.specs.Tables.{is_any_enabled}
+use Rattle.mr_exchange.specs.SyncTables.{is_any_enabled}
 use Rattle.mr_witness.specs.TypingWalk.{WellFormed}
 use Rattle.mr_witness.specs.PlanMachine.{Bare, Completed, IllFormedStep, State, Stops, bare}
 use Rattle.mr_witness.specs.PlanQueries.{tables_of}
@@ -16,7 +16,7 @@ use Rattle.mr_witness.specs.PlanRuns.{AreLegal, Config, Printed, after, after_ba
 use Rattle.mr_witness.specs.FrameFits.{IsLook}
 use Rattle.mr_witness.specs.FrameFrames.{Look}
 use Rattle.mr_witness.specs.ThreadSoundState.{SoundState}
-use Rattle.mr_witness.specs.ThreadSteps.{Own, thread_step}
+use Rattle.mr_witness.specs.StartSteps.{Own, thread_step}
 use Rattle.mr_exchange.specs.Swap.{IsSane, SwapLaw}
 use Rattle.mr_exchange.proofs.Exchanged.{NotesThread}
 use Rattle.mr_exchange.specs.Witness.{entry_at}

@@ -9,17 +9,17 @@ use Rattle.mr_base.specs.declared.reason.Reason.{Reason}
 use Rattle.mr_base.specs.declared.reason.Reason.TheVariants.{DanglingReference, NotHolder}
 use Rattle.mr_base.specs.declared.thread.Event.{Event}
 use Rattle.mr_base.specs.declared.thread.Event.TheVariants.{Acquire, Join, Release}
-use Rattle.mr_mem.proofs.SpeakingLaws.{checked_speaks, freed_speaks, read_speaks, written_speaks}
-use Rattle.mr_mem.specs.Memory.{Memory, checked, freed, read, written}
+use Rattle.mr_eval.proofs.MemSpeakingLaws.{checked_speaks, freed_speaks, read_speaks, written_speaks}
+use Rattle.mr_eval.specs.MemMemory.{Memory, checked, freed, read, written}
 use Rattle.mr_value.specs.Numbers.{number_of}
 use Rattle.mr_base.specs.Script.{Broken, Outcome, Refused, Went, on}
-use Rattle.mr_sync.specs.Tables.{Tables, acquired, any_waits, awaiting, ended, holding, joined, over, released, trying}
+use Rattle.mr_exchange.specs.SyncTables.{Tables, acquired, any_waits, awaiting, ended, holding, joined, over, released, trying}
 use Rattle.mr_eval.specs.MemoryQueries.{Allocate, Free, MemoryQuery, Modify, Reading, Write, changing, memory_answer, modifying, number_bytes, replacing}
 use Rattle.mr_eval.specs.Reads.{Check, Read, ReadQuery, Refer, Seen, answered, lending, named, reading}
 use Rattle.mr_eval.specs.Stores.{storing}
 use Rattle.mr_eval.specs.Tally.{Tally}
-use Rattle.mr_start.specs.PlanNotes.{Notes}
-use Rattle.mr_start.specs.PlanQueries.{Await, Finish, NewLock, OfMemory, Print, Query, Shared, Start, TryLock, Unlock, Waiting, answer, blocked, ending, fits, giving, going, in_shared, note, tables_of, telling, with_tables, woke}
+use Rattle.mr_exchange.specs.PlanNotes.{Notes}
+use Rattle.mr_exchange.specs.PlanQueries.{Await, Finish, NewLock, OfMemory, Print, Query, Shared, Start, TryLock, Unlock, Waiting, answer, blocked, ending, fits, giving, going, in_shared, note, tables_of, telling, with_tables, woke}
 use Rattle.mr_witness.proofs.Calm.{CalmOutcome, CalmResult, calm_answered, calm_on, spoken_result}
 
 -- ---- memory

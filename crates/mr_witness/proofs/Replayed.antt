@@ -14,7 +14,7 @@ use Rattle.mr_event.specs.Order.{step_at, thread_at}
 use Rattle.mr_exchange.specs.Shown.{AreAdjacent, NextIs}
 use Rattle.mr_exchange.specs.Trace.{IsReported, Runs}
 use Rattle.mr_sched.specs.declared.schedule.Entry.{Entry}
-use Rattle.mr_sync.specs.Tables.{is_any_enabled, is_enabled}
+use Rattle.mr_exchange.specs.SyncTables.{is_any_enabled, is_enabled}
 use Rattle.mr_witness.specs.TypingWalk.{WellFormed}
 use Rattle.mr_witness.specs.PlanLegal.{state_fault, status_fault}
 use Rattle.mr_witness.specs.PlanMachine.{Bare, Language, State, bare}
@@ -24,7 +24,7 @@ use Rattle.mr_witness.proofs.PlanLegalLaws.{no_faults}
 use Rattle.mr_witness.specs.FrameFits.{IsLook}
 use Rattle.mr_witness.specs.FrameFrames.{Look}
 use Rattle.mr_witness.specs.ThreadSoundState.{SoundState}
-use Rattle.mr_witness.specs.ThreadSteps.{Own, thread_step}
+use Rattle.mr_witness.specs.StartSteps.{Own, thread_step}
 use Rattle.mr_exchange.specs.Swap.{IsSane, SwapLaw}
 use Rattle.mr_exchange.proofs.Exchanged.{NotesThread}
 use Rattle.mr_exchange.specs.Witness.{entry_at}

@@ -19,7 +19,7 @@ use Rattle.mr_witness.specs.PlanRuns.{AreLegal, Config, Printed, after, entry_fa
 use Rattle.mr_witness.specs.FrameFits.{IsLook}
 use Rattle.mr_witness.specs.FrameFrames.{Look}
 use Rattle.mr_witness.specs.ThreadSoundState.{SoundState}
-use Rattle.mr_witness.specs.ThreadSteps.{Own, thread_step}
+use Rattle.mr_witness.specs.StartSteps.{Own, thread_step}
 use Rattle.mr_exchange.specs.Swap.{IsSane, SwapLaw}
 use Rattle.mr_exchange.proofs.Exchanged.{NotesThread}
 use Rattle.mr_exchange.specs.Witness.{IsPrefix, entries_of, entry_at}

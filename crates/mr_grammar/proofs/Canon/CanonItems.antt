@@ -1,7 +1,7 @@
 -- Items of globals are printed as they are written.
 use Rattle.std.proofs.Common.{◌≡◌, List, ℕ, None, length, [], codes, refl, ◌==◌, inr, ◌∷◌, Bool, if◌then◌else◌, true, false, inl, Some, ap, sym, ◌∙◌, subst}
 use Rattle.std.specs.Prelude.{decimal}
-use Rattle.mr_base.proofs.Comparisons.{eq_from}
+use Rattle.mr_words.proofs.BaseComparisons.{eq_from}
 use Rattle.mr_ast.specs.declared.program.Item_.TheVariants as item
 use Rattle.mr_ast.specs.declared.program.Program.{Program}
 use Rattle.mr_ast.specs.declared.program.Target.{Target}

@@ -3,7 +3,7 @@ use Rattle.std.proofs.Common.{List, ℕ, length, ◌+◌, ◌≡◌, Option, Non
 use Rattle.std.specs.Prelude.{nat_lt}
 use Rattle.std.proofs.lemmas.Bool.Decides.{nat_tests}
 use Rattle.std.proofs.lemmas.List.{length-map}
-use Rattle.mr_base.proofs.Comparisons.{lt_from}
+use Rattle.mr_words.proofs.BaseComparisons.{lt_from}
 use Rattle.mr_ast.specs.declared.program.Block.{Block}
 use Rattle.mr_ast.specs.declared.program.Function.{Function}
 use Rattle.mr_ast.specs.declared.program.Global_.{Global_}

@@ -3,7 +3,7 @@ use Rattle.std.proofs.Common.{ℕ, ◌<◌, List, ◌≤◌, ◌+◌, length, []
 use Rattle.std.specs.List.{AllByRecursion}
 use Rattle.std.specs.Prelude.{option_map}
 use Rattle.std.proofs.lemmas.List.Sums.{AllPass-from_list_all}
-use Rattle.mr_base.proofs.Options.{some_is}
+use Rattle.mr_words.proofs.BaseOptions.{some_is}
 use Rattle.mr_ast.specs.declared.program.Function.{Function}
 use Rattle.mr_ast.specs.declared.program.Program.{Program}
 use Rattle.mr_ast.specs.declared.words.Bracket.TheVariants.{Round}

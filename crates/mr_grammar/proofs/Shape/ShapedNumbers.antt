@@ -3,8 +3,8 @@ use Rattle.std.proofs.Common.{Bool, ◌≡◌, true, ◌&&◌, refl, List, [], �
 use Rattle.std.specs.List.{AllByRecursion, list_all}
 use Rattle.std.specs.Prelude.{option_map, nat_lt, nat_le}
 use Rattle.std.proofs.lemmas.Bool.{and_parts}
-use Rattle.mr_base.proofs.Comparisons.{lt_from, le_from, not_false}
-use Rattle.mr_base.proofs.Options.{some_is}
+use Rattle.mr_words.proofs.BaseComparisons.{lt_from, le_from, not_false}
+use Rattle.mr_words.proofs.BaseOptions.{some_is}
 use Rattle.mr_ast.specs.Forms.{Word}
 use Rattle.mr_ast.specs.Scope.{Scope}
 use Rattle.mr_ast.specs.Shaped.{IsRepeat}

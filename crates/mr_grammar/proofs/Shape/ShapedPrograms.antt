@@ -1,8 +1,8 @@
 -- The globals and functions that a row without a broken limit writes are shaped, where the program has as many of each as are defined.
 use Rattle.std.proofs.Common.{ℕ, ◌≡◌, Some, None, true, ◌≤◌, nat_le, codes, refl, Bool, if◌then◌else◌, ap, sym, false, All, length, ◌<◌, List, [], ◌∷◌, suc, arith, ◌^◌}
 use Rattle.std.proofs.lemmas.List.Elements.{All-from_recursion, All-cons, All-weaker}
-use Rattle.mr_base.proofs.Comparisons.{le_from, lt_from}
-use Rattle.mr_base.proofs.Options.{some_is}
+use Rattle.mr_words.proofs.BaseComparisons.{le_from, lt_from}
+use Rattle.mr_words.proofs.BaseOptions.{some_is}
 use Rattle.mr_ast.specs.declared.program.Block.{Block}
 use Rattle.mr_ast.specs.declared.program.Function.{Function}
 use Rattle.mr_ast.specs.declared.program.Program.{Program}

@@ -1,7 +1,7 @@
 -- The places and values that a row without a broken limit writes are shaped.
 use Rattle.std.proofs.Common.{◌≡◌, true, ◌∙◌, List, [], ◌∷◌, ℕ, nat_le, Bool, false}
 use Rattle.std.specs.List.{AllByRecursion, fold}
-use Rattle.mr_base.proofs.Comparisons.{lt_test}
+use Rattle.mr_words.proofs.BaseComparisons.{lt_test}
 use Rattle.mr_ast.specs.declared.expr.Place.{Place}
 use Rattle.mr_ast.specs.declared.words.Role.TheVariants.{UsesLocal}
 use Rattle.mr_ast.specs.declared.words.ValueWord.{ValueWord}

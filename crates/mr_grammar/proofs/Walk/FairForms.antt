@@ -1,7 +1,7 @@
 -- The judges of each form of the grammar are fair. Outside brackets no form of a kind has a part.
 use Rattle.std.proofs.Common.{Bool, true, codes, refl, None, ℕ, Option, ◌≡◌, Some, ap}
 use Rattle.std.specs.Prelude.{nat_le, option_map}
-use Rattle.mr_base.proofs.Options.{some_is}
+use Rattle.mr_words.proofs.BaseOptions.{some_is}
 use Rattle.mr_ast.specs.declared.program.BlockKind.TheVariants as kind
 use Rattle.mr_ast.specs.declared.program.Intrinsic.TheVariants as intrinsic
 use Rattle.mr_ast.specs.declared.words.ItemWord.{ItemWord}

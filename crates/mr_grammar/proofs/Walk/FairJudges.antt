@@ -2,7 +2,7 @@
 use Rattle.std.proofs.Common.{List, ℕ, Bool, Option, ◌≡◌, Some, inl, refl, None, ap, if◌then◌else◌, true, false, bytes_eq, codes, not, ◌^◌, ◌&&◌, ◌==◌, length, inr}
 use Rattle.std.specs.Prelude.{option_map, nat_lt, nat_le}
 use Rattle.std.proofs.lemmas.Slice.Eq.{bytes_eq-Decides}
-use Rattle.mr_base.proofs.Options.{some_is}
+use Rattle.mr_words.proofs.BaseOptions.{some_is}
 use Rattle.mr_ast.specs.declared.program.Target.{Target}
 use Rattle.mr_ast.specs.declared.program.Target.TheVariants as target
 use Rattle.mr_ast.specs.declared.types.IntType.TheVariants as int

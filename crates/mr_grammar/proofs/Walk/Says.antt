@@ -3,7 +3,7 @@
 use Rattle.std.proofs.Common.{◌≡◌, Result, Ok, Err, List, Option, [], None, ◌∷◌, Some, ap, ◌++◌, refl, ℕ, Bool, ◌⊎◌, ◌∙◌, sym, inl, inr, subst, append_assoc, if◌then◌else◌, true, false, bytes_eq, length, ◌<◌, arith, length-append, ◌≤◌, zero, suc}
 use Rattle.std.proofs.lemmas.List.{append-nil}
 use Rattle.std.proofs.lemmas.Slice.Eq.{bytes_eq-Decides}
-use Rattle.mr_base.proofs.Options.{some_is}
+use Rattle.mr_words.proofs.BaseOptions.{some_is}
 use Rattle.mr_ast.specs.declared.words.Bracket.{Bracket}
 use Rattle.mr_ast.specs.Forms.{Mark, Word, opening, closing, EachSpelled}
 use Rattle.mr_words.specs.declared.fault.Stop.{Stop}

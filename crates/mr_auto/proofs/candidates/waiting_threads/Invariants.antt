@@ -1,8 +1,8 @@
 use Rattle.std.proofs.Common.{◌≡◌}
 use Rattle.std.specs.List.{filter, range_with_len}
 use Rattle.std.specs.Prelude.{Some, slice_get}
-use Rattle.mr_sync.specs.Tables.{on_lock}
-use Rattle.mr_step.specs.PlanMachine.{State}
+use Rattle.mr_start.specs.SyncTables.{on_lock}
+use Rattle.mr_run.specs.StepPlanMachine.{State}
 use Rattle.mr_start.specs.Steps.{Own}
 use Rattle.mr_auto.proofs.candidates.waiting_threads.Given as goal
 

@@ -1,10 +1,10 @@
 use Rattle.std.proofs.Common.{◌≡◌, ◌+◌, ◌<◌, ◌^◌, sym, ◌∙◌, subst, Err, Ok}
-use Rattle.mr_step.specs.PlanRuns.{feet}
+use Rattle.mr_run.specs.StepPlanRuns.{feet}
 use Rattle.mr_start.specs.Steps.{thread_step}
 use Rattle.mr_typing.specs.Walk.{WellFormed}
 use Rattle.mr_start.specs.Start.{pieces}
-use Rattle.mr_step.specs.Answers.{StartAnswer, fault_of, standing}
-use Rattle.mr_step.specs.Standing.{Standing}
+use Rattle.mr_run.specs.StepAnswers.{StartAnswer, fault_of, standing}
+use Rattle.mr_run.specs.StepStanding.{Standing}
 use Rattle.mr_auto.specs.Answers.{AreAddresses}
 use Rattle.mr_auto.specs.Drawn.{BeginsDrawing, drawn_from_here}
 use Rattle.mr_auto.proofs.Drawings.{are_addresses, begins_drawing, completed_none, drawn_is, drawn_run, drawn_steps, never_refused, picks_of, start_is, start_there}

@@ -1,8 +1,8 @@
 use Rattle.std.proofs.Common.{◌≡◌, ap, sym, subst, ◌∙◌, true, false, length, Some}
 use Rattle.std.specs.Prelude.{◌==◌, slice_get}
-use Rattle.mr_sync.specs.Tables.{is_enabled}
-use Rattle.mr_step.specs.PlanRuns.{is_running}
-use Rattle.mr_step.proofs.EntryLaws.{enabled_is}
+use Rattle.mr_start.specs.SyncTables.{is_enabled}
+use Rattle.mr_run.specs.StepPlanRuns.{is_running}
+use Rattle.mr_run.proofs.StepEntryLaws.{enabled_is}
 use Rattle.mr_auto.specs.Answers.{NextAnswer}
 use Rattle.mr_sched.specs.declared.chooser.Chooser.{Chooser}
 use Rattle.mr_auto.specs.Drawing.{candidate, enabled_in, entry_from}

@@ -1,7 +1,7 @@
 use Rattle.std.proofs.Common.{◌++◌, ap, sym, subst, ◌∙◌, ℕ, Result}
 use Rattle.mr_auto.proofs.Nexts.{weaker}
 use Rattle.mr_auto.specs.Drawing.{Next}
-use Rattle.mr_plan.specs.Machine.{needs}
+use Rattle.mr_step.specs.PlanMachine.{needs}
 use Rattle.mr_start.specs.Steps.{thread_step}
 use Rattle.mr_fill.specs.Turning.{TurnAnswer}
 use Rattle.mr_fill.proofs.TurnLaws.{enabled_told, limit_broken}

@@ -3,7 +3,7 @@ use Rattle.std.proofs.lemmas.Result.{IfOk-weaker}
 use Rattle.mr_base.specs.declared.reason.Verdict.{Verdict}
 use Rattle.mr_sched.specs.declared.schedule.Schedule.{Schedule}
 use Rattle.mr_auto.specs.Drawing.{drawn_schedule}
-use Rattle.mr_start.specs.Runs.{steps_of}
+use Rattle.mr_auto.specs.StartRuns.{steps_of}
 use Rattle.mr_hunt.specs.Aims.{aim_of}
 use Rattle.mr_replay.specs.Stands.{stands_of}
 use Rattle.mr_hunt.specs.Texts.{both_races, run_races, told_text}

@@ -1,5 +1,5 @@
 use Rattle.std.proofs.Common.{ap, ◌++◌, ◌∙◌, map}
-use Rattle.mr_plan.specs.Machine.{needs}
+use Rattle.mr_step.specs.PlanMachine.{needs}
 use Rattle.mr_step.specs.ThreadSteps.{thread_step}
 use Rattle.mr_next.specs.Prospects.{want_of}
 use Rattle.mr_next.proofs.prospecting.enabled_needed.Goals as goal

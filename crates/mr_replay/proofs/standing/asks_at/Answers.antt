@@ -1,5 +1,5 @@
 use Rattle.std.proofs.Common.{◌≡◌, ◌∙◌, List, Some}
-use Rattle.mr_plan.specs.Machine.{State, needs}
+use Rattle.mr_frame.specs.PlanMachine.{State, needs}
 use Rattle.mr_sched.specs.declared.schedule.Ask.{Ask}
 use Rattle.mr_step.specs.ThreadSteps.{Own, thread_step}
 use Rattle.mr_replay.specs.Told.{asks_at}

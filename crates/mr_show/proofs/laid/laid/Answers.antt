@@ -3,7 +3,7 @@ use Rattle.std.specs.Prelude.{IfOk, Option}
 use Rattle.mr_clocks.specs.Tracked.{Tracks}
 use Rattle.mr_event.specs.Footprint.{Footprint}
 use Rattle.mr_event.specs.Predicted.{predicted}
-use Rattle.mr_plan.specs.Runs.{Config}
+use Rattle.mr_step.specs.PlanRuns.{Config}
 use Rattle.mr_start.specs.Steps.{Own}
 use Rattle.mr_input.specs.declared.written.Written.{Written}
 use Rattle.mr_input.specs.Answer.{Answer, seen as written_as}

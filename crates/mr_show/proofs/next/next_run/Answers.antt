@@ -1,6 +1,6 @@
 use Rattle.std.proofs.Common.{subst, sym}
 use Rattle.std.specs.Prelude.{Option}
-use Rattle.mr_plan.specs.Legal.{Fault}
+use Rattle.mr_step.specs.PlanLegal.{Fault}
 use Rattle.mr_start.specs.Runs.{schedule_fault}
 use Rattle.mr_answer.proofs.RunLaws.{refused_read}
 use Rattle.mr_input.specs.Answer.{Tells}

@@ -1,6 +1,6 @@
 use Rattle.std.proofs.Common.{List, ℕ, ◌++◌, ◌∙◌, ap, ap₂, length, subst}
 use Rattle.std.specs.Prelude.{flat_map}
-use Rattle.mr_report.specs.Report.{count_line}
+use Rattle.mr_listing.specs.ReportReport.{count_line}
 use Rattle.mr_listing.specs.declared.pairs.Group.{Group}
 use Rattle.mr_listing.specs.Races.{by_count}
 use Rattle.mr_traced.specs.Groups.{AreGroups}

@@ -4,7 +4,7 @@ use Rattle.mr_plan.specs.Machine.{State, needs}
 use Rattle.mr_sync.specs.Tables.{IsEnabled}
 use Rattle.mr_frame.specs.Frames.{Look}
 use Rattle.mr_plan.specs.Queries.{tables_of}
-use Rattle.mr_start.specs.Steps.{Own, thread_step}
+use Rattle.mr_exchange.specs.StartSteps.{Own, thread_step}
 use Rattle.mr_turn.specs.Asking.{AsksAnswer}
 use Rattle.mr_step.specs.Kept.{IsSound, config_of, setting_look, state_of}
 use Rattle.mr_step.specs.Standing.{Standing}

@@ -11,7 +11,7 @@ use Rattle.mr_step.proofs.HandLaws.{gone_on}
 use Rattle.mr_step.proofs.SoundLaws.{advanced_ok, advanced_sound}
 use Rattle.mr_plan.specs.Limits.{AreWithin}
 use Rattle.mr_plan.specs.Runs.{Config}
-use Rattle.mr_start.specs.Steps.{Own}
+use Rattle.mr_exchange.specs.StartSteps.{Own}
 use Rattle.mr_step.proofs.machine.Machine.go.Goals as goal
 
 pub advance-requires : goal.advance-requires
