@@ -1,13 +1,14 @@
 -- Reports and the lines of places, computed.
-use Rattle.std.proofs.Common.{◌≡◌, [], ◌∷◌, ◌++◌, None, codes, refl}
+use Rattle.mr_answer.proofs.Common.{◌≡◌, [], ◌∷◌, ◌++◌, None, refl, One}
+use Rattle.std.proofs.Common.{codes}
 use Rattle.std.specs.Fmt.{digits}
 use Rattle.mr_base.specs.declared.reason.Reason.TheVariants.{DataRace}
-use Rattle.mr_base.specs.declared.reason.Verdict.TheVariants as verdict
-use Rattle.mr_sched.specs.declared.version.Version.TheVariants.{One, Two}
+use Rattle.mr_sched.specs.declared.version.Version.TheVariants.{Two}
 use Rattle.mr_report.specs.Report.{line}
-use Rattle.mr_answer.specs.declared.formats.Format.TheVariants as Format
 use Rattle.mr_answer.specs.Answers.{line_at}
 use Rattle.mr_answer.specs.Report.{report_of}
+use Rattle.mr_base.specs.declared.reason.Verdict.TheVariants as verdict
+use Rattle.mr_answer.specs.declared.formats.Format.TheVariants as Format
 
 one_print : report_of Format.Text (record { thread = 0; text = codes "42" } ∷ []) verdict.Exit [] None One ≡ line (codes "> 42") ++ line (codes "verdict exit") ++ line (codes "races 0")
 unfolding digits

@@ -1,3 +1,4 @@
+mod Common
 pub mod Examples
 pub mod PrintedLaws
 pub mod Printing

@@ -1,16 +1,8 @@
 -- What a run prints can be written as JSON.
-use Rattle.std.proofs.Common.{◌≡◌, subst, sym, List, [], ◌∷◌, map, true}
-use Rattle.std.specs.List.{list_all}
-use Rattle.std.proofs.lemmas.List.Elements.{All-cons, All-head, All-nil, All-tail}
-use Rattle.mr_ast.specs.declared.program.Program.{Program}
-use Rattle.mr_sched.specs.declared.schedule.Schedule.{Schedule}
-use Rattle.mr_step.specs.PlanRuns.{Config, Printed}
-use Rattle.mr_step.specs.StartRuns.{run_of}
-use Rattle.mr_step.specs.ThreadSteps.{Own}
-use Rattle.mr_report.specs.Json.{ArePrinted, is_printed}
+use Rattle.mr_answer.proofs.Common.{◌≡◌, subst, sym, List, [], ◌∷◌, map, true, list_all, All-cons, All-head, All-nil, All-tail, Program, Schedule, Config, Printed, run_of, Own, is_printed, line_of}
+use Rattle.mr_report.specs.Json.{ArePrinted}
 use Rattle.mr_report.specs.declared.report.Line.{Line}
 use Rattle.mr_answer.proofs.Printing.Runs.{AreLines, run_plain}
-use Rattle.mr_answer.specs.Report.{line_of}
 
 lines_printed : (output : List Printed) → AreLines output → ArePrinted (map line_of output)
 lines_printed [] h = All-nil (λ (l : Line). list_all is_printed l.text ≡ true)

@@ -1,26 +1,16 @@
 -- Runs in another order.
-use Rattle.std.proofs.Common.{◌≡◌, ℕ, ◌≤◌, refl, sym, ap, ◌∙◌, subst, arith, List, [], ◌∷◌, map, length, drop, Bool, true, false, None, length-append, length-drop}
+use Rattle.mr_answer.proofs.Common.{◌≡◌, ℕ, ◌≤◌, refl, sym, ap, ◌∙◌, subst, arith, List, [], ◌∷◌, map, length, Bool, true, false, None, Program, Footprint, Pair, predicted, Config, Schedule, Version, Legal, run_of, steps_of, Own, shuffled, Text, Ran, behind_schedule, ordered_answer, shuffled_answer, told_by, told_in}
+use Rattle.std.proofs.Common.{drop, length-append, length-drop}
 use Rattle.std.specs.Prelude.{◌==◌}
 use Rattle.std.proofs.lemmas.Bool.{both_ways, eq-eqb, eqb-true}
 use Rattle.std.proofs.lemmas.List.{length-map, nil_from_length}
 use Rattle.std.proofs.lemmas.List.Sorted.{length_permutation}
-use Rattle.mr_ast.specs.declared.program.Program.{Program}
-use Rattle.mr_event.specs.Footprint.{Footprint}
-use Rattle.mr_event.specs.declared.footprint.Pair.{Pair}
 use Rattle.mr_event.specs.Order.{places}
-use Rattle.mr_event.specs.Predicted.{predicted}
-use Rattle.mr_step.specs.PlanRuns.{Config}
-use Rattle.mr_sched.specs.declared.schedule.Schedule.{Schedule}
-use Rattle.mr_sched.specs.declared.version.Version.{Version}
-use Rattle.mr_step.specs.StartRuns.{Legal, run_of, steps_of}
-use Rattle.mr_step.specs.ThreadSteps.{Own}
 use Rattle.mr_typing.specs.Walk.{WellFormed}
 use Rattle.mr_step.specs.ExchangeWitness.{entry_at}
 use Rattle.mr_witness.specs.EveryOrder.{ComesToTheSame}
-use Rattle.mr_witness.specs.Shuffled.{shuffled, shuffled_order}
+use Rattle.mr_witness.specs.Shuffled.{shuffled_order}
 use Rattle.mr_witness.proofs.Drawn.{places_length, shuffled_rearranged}
-use Rattle.mr_answer.specs.declared.formats.Format.TheVariants.{Text}
-use Rattle.mr_answer.specs.Answers.{Ran, behind_schedule, ordered_answer, shuffled_answer, told_by, told_in}
 use Rattle.mr_answer.proofs.RunLaws.{told_bare}
 
 -- ---- the other order

@@ -1,30 +1,19 @@
 -- What is told of a run, from how it is answered.
-use Rattle.std.proofs.Common.{◌≡◌, ℕ, sym, ap, ap₂, ◌∙◌, List, [], length, Option, Some, None, Err, inl, inr, subst}
-use Rattle.std.specs.Prelude.{Result}
-use Rattle.mr_ast.specs.declared.program.Program.{Program}
-use Rattle.mr_event.specs.Footprint.{Footprint}
-use Rattle.mr_event.specs.declared.footprint.Pair.{Pair}
-use Rattle.mr_event.specs.Predicted.{predicted}
+use Rattle.mr_answer.proofs.Common.{◌≡◌, ℕ, sym, ap, ap₂, ◌∙◌, List, [], length, Option, Some, None, Err, subst, Result, Program, Footprint, Pair, predicted, Config, Schedule, Version, One, Legal, run_of, steps_of, Own, Written, Text, Answer, Tells, Ran, behind_schedule, told_by, told_in}
+use Rattle.std.proofs.Common.{inl, inr}
 use Rattle.mr_gen.specs.Generated.{generated}
-use Rattle.mr_step.specs.PlanRuns.{Config}
-use Rattle.mr_sched.specs.declared.schedule.Schedule.{Schedule}
-use Rattle.mr_sched.specs.declared.version.Version.{Version}
-use Rattle.mr_sched.specs.declared.version.Version.TheVariants.{One}
-use Rattle.mr_step.specs.StartRuns.{Legal, PlacedFault, run_of, steps_of}
+use Rattle.mr_step.specs.StartRuns.{PlacedFault}
 use Rattle.mr_step.proofs.StartRunLaws.{no_schedule_fault}
 use Rattle.mr_step.specs.Standing.{Standing}
-use Rattle.mr_step.specs.ThreadSteps.{Own}
 use Rattle.mr_auto.specs.Drawing.{drawn_schedule}
 use Rattle.mr_run.specs.declared.fault.RunFault.{RunFault}
 use Rattle.mr_run.specs.declared.fault.RunFault.TheVariants.{Broken, Memory}
 use Rattle.mr_run.specs.Runs.{IsFirstFault, IsRun}
 use Rattle.mr_run.specs.Witnesses.{witness_for}
-use Rattle.mr_input.specs.declared.written.Written.{Written}
 use Rattle.mr_answer.specs.declared.formats.Format.{Format}
-use Rattle.mr_answer.specs.declared.formats.Format.TheVariants.{Text}
 use Rattle.mr_input.specs.declared.refusal.Refusal.{Refusal}
-use Rattle.mr_input.specs.Answer.{Answer, told, Tells}
-use Rattle.mr_answer.specs.Answers.{Ran, behind_schedule, big_answer, drawn_answer, legal_run, ran, selection_of, summary, told_by, told_in, unless_broken}
+use Rattle.mr_input.specs.Answer.{told}
+use Rattle.mr_answer.specs.Answers.{big_answer, drawn_answer, legal_run, ran, selection_of, summary, unless_broken}
 use Rattle.mr_input.specs.Inputs.{IsUnreadFault}
 use Rattle.mr_answer.specs.Running.{refusal_by}
 

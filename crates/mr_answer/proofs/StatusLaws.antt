@@ -1,18 +1,11 @@
 -- The status of a report, and of races that are listed, is at most 1.
-use Rattle.std.proofs.Common.{ℕ, ◌≤◌, arith, List, [], ◌∷◌}
-use Rattle.mr_ast.specs.declared.program.Program.{Program}
+use Rattle.mr_answer.proofs.Common.{ℕ, ◌≤◌, arith, List, [], ◌∷◌, Program, Schedule, Version, Pair, predicted, run_of, steps_of, shuffled, Ran, reported, shuffled_answer}
 use Rattle.mr_base.specs.declared.reason.Verdict.{Verdict}
-use Rattle.mr_base.specs.declared.reason.Verdict.TheVariants as verdict
-use Rattle.mr_sched.specs.declared.schedule.Schedule.{Schedule}
-use Rattle.mr_sched.specs.declared.version.Version.{Version}
-use Rattle.mr_event.specs.declared.footprint.Pair.{Pair}
-use Rattle.mr_event.specs.Predicted.{predicted}
-use Rattle.mr_step.specs.StartRuns.{run_of, steps_of}
-use Rattle.mr_witness.specs.Shuffled.{shuffled}
 use Rattle.mr_answer.specs.declared.formats.Format.{Format}
-use Rattle.mr_answer.specs.declared.formats.Format.TheVariants as format
-use Rattle.mr_answer.specs.Answers.{Ran, races_status, reported, shuffled_answer}
+use Rattle.mr_answer.specs.Answers.{races_status}
 use Rattle.mr_answer.specs.Report.{report_status, verdict_status}
+use Rattle.mr_base.specs.declared.reason.Verdict.TheVariants as verdict
+use Rattle.mr_answer.specs.declared.formats.Format.TheVariants as format
 
 verdict_at_most_one : (v : Verdict) → verdict_status v ≤ 1
 verdict_at_most_one verdict.Running = omega arith

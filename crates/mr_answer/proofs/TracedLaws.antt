@@ -1,14 +1,8 @@
 -- Runs whose footprints are written.
-use Rattle.std.proofs.Common.{◌≡◌, subst, sym, List}
-use Rattle.std.specs.Prelude.{All, OnOk, Result, Ok, Err}
-use Rattle.mr_ast.specs.declared.program.Program.{Program}
-use Rattle.mr_event.specs.Footprint.{Footprint}
+use Rattle.mr_answer.proofs.Common.{◌≡◌, subst, sym, List, All, OnOk, Result, Ok, Err, Program, Footprint, Schedule, Legal, steps_of, Written}
 use Rattle.mr_event.specs.FootOk.{IsFootOk}
-use Rattle.mr_sched.specs.declared.schedule.Schedule.{Schedule}
-use Rattle.mr_step.specs.StartRuns.{Legal, steps_of}
 use Rattle.mr_typing.specs.Walk.{WellFormed}
 use Rattle.mr_step.proofs.ExchangeFootLimits.{run_ok}
-use Rattle.mr_input.specs.declared.written.Written.{Written}
 use Rattle.mr_input.specs.Answer.{answered}
 
 -- each of its footprints keeps the machine's limits

@@ -1,19 +1,15 @@
 -- Canonical words and texts of small things, computed.
-use Rattle.std.proofs.Common.{◌≡◌, ℕ, true, false, [], ◌∷◌, codes, refl}
+use Rattle.mr_ast.proofs.Common.{◌≡◌, ℕ, true, false, [], ◌∷◌, codes, refl, Num, Ty, num_words, words_of_type, NameTexts, words_of_place, words_of_value}
 use Rattle.std.specs.Fmt.{digits}
 use Rattle.mr_ast.specs.declared.types.IntType.TheVariants.{U8, I8}
-use Rattle.mr_ast.specs.declared.types.Num.{Num}
-use Rattle.mr_ast.specs.declared.types.Ty.{Ty}
-use Rattle.mr_ast.specs.declared.types.Ty.TheVariants as ty
 use Rattle.mr_ast.specs.declared.expr.BinaryOp.TheVariants.{Add}
+use Rattle.mr_ast.specs.declared.program.BlockKind.TheVariants.{Regular}
+use Rattle.mr_ast.specs.declared.program.Program.{Program}
+use Rattle.mr_ast.specs.Canon.{repeat_words, words_of_term, head_line, locals_line, block_lines, function_lines, lines_of, canonical_text}
+use Rattle.mr_ast.specs.declared.types.Ty.TheVariants as ty
 use Rattle.mr_ast.specs.declared.expr.Place.TheVariants as place
 use Rattle.mr_ast.specs.declared.expr.Value.TheVariants as value
-use Rattle.mr_ast.specs.declared.program.BlockKind.TheVariants.{Regular}
 use Rattle.mr_ast.specs.declared.program.Term.TheVariants as term
-use Rattle.mr_ast.specs.declared.program.Program.{Program}
-use Rattle.mr_ast.specs.CanonTypes.{num_words, words_of_type}
-use Rattle.mr_ast.specs.CanonValues.{NameTexts, words_of_place, words_of_value}
-use Rattle.mr_ast.specs.Canon.{repeat_words, words_of_term, head_line, locals_line, block_lines, function_lines, lines_of, canonical_text}
 use Rattle.mr_ast.proofs.CanonTypeLaws.{words_int_type, words_ref, words_tuple_type}
 use Rattle.mr_ast.proofs.CanonValueLaws.{words_local, words_index, words_int, words_load, words_binary}
 

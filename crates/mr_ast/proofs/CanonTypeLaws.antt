@@ -1,19 +1,9 @@
 -- The equations of the canonical words of types, one for each kind of tree and type.
-use Rattle.std.proofs.Common.{◌≡◌, ℕ, suc, Bool, List, [], ◌∷◌, ◌++◌, length, map, refl, sym, ap, ◌∙◌}
-use Rattle.std.specs.Prelude.{flat_map, codes, decimal, if◌then◌else◌}
-use Rattle.mr_ast.specs.declared.types.IntType.{IntType}
-use Rattle.mr_ast.specs.declared.types.Num.{Num}
-use Rattle.mr_ast.specs.declared.types.Tree.{Tree}
+use Rattle.mr_ast.proofs.Common.{◌≡◌, ℕ, suc, Bool, List, [], ◌∷◌, ◌++◌, length, map, refl, sym, ap, ◌∙◌, codes, decimal, if◌then◌else◌, IntType, Num, Tree, Tree-F, fold-roll-Tree, Ty, roll-Ty, Ty-F, map-Ty, fold-Variant, fold-roll-Ty, fold-roll-Variant, Variant, out-Variant, Texts, int_word, num_words, words_of_type}
+use Rattle.std.specs.Prelude.{flat_map}
+use Rattle.mr_ast.specs.CanonTypes.{braced, shape_words, chunk_words, case_row, tree_words_step, words_of_tree, field_row, is_unit, type_words_step, variant_words_step, case_words, field_words, variant_words}
 use Rattle.mr_ast.specs.declared.types.Tree.TheVariants as tree
-use Rattle.mr_ast.specs.declared.types.Tree.TheOpen.{Tree-F}
-use Rattle.mr_ast.specs.declared.types.Tree.TheFolds.{fold-roll-Tree}
-use Rattle.mr_ast.specs.declared.types.Ty.{Ty, roll-Ty}
 use Rattle.mr_ast.specs.declared.types.Ty.TheVariants as ty
-use Rattle.mr_ast.specs.declared.types.Ty.TheOpen.{Ty-F}
-use Rattle.mr_ast.specs.declared.types.Ty.TheFolds.{map-Ty, fold-Variant, fold-roll-Ty, fold-roll-Variant}
-use Rattle.mr_ast.specs.declared.types.Variant.{Variant, out-Variant}
-use Rattle.mr_ast.specs.Words.{Texts}
-use Rattle.mr_ast.specs.CanonTypes.{int_word, num_words, braced, shape_words, chunk_words, case_row, tree_words_step, words_of_tree, field_row, is_unit, type_words_step, variant_words_step, words_of_type, case_words, field_words, variant_words}
 
 -- rows that are made of mapped things
 pub flat_map-map : {X Y A : Type 0} (f : Y → List A) (g : X → Y) (xs : List X) → flat_map f (map g xs) ≡ flat_map (λ x. f (g x)) xs

@@ -1,23 +1,9 @@
 -- The equations of the canonical words of places and values, one for each kind.
-use Rattle.std.proofs.Common.{◌≡◌, ℕ, List, [], ◌∷◌, ◌++◌, sym, ap, ◌∙◌}
-use Rattle.std.specs.Prelude.{flat_map, codes, decimal}
-use Rattle.mr_ast.specs.declared.types.IntType.{IntType}
-use Rattle.mr_ast.specs.declared.types.Num.{Num}
-use Rattle.mr_ast.specs.declared.types.Ty.{Ty}
-use Rattle.mr_ast.specs.declared.program.FnName.{FnName}
-use Rattle.mr_ast.specs.declared.program.GlobalName.{GlobalName}
-use Rattle.mr_ast.specs.declared.program.LocalName.{LocalName}
-use Rattle.mr_ast.specs.declared.expr.UnaryOp.{UnaryOp}
-use Rattle.mr_ast.specs.declared.expr.BinaryOp.{BinaryOp}
-use Rattle.mr_ast.specs.declared.expr.Place.{Place, roll-Place}
-use Rattle.mr_ast.specs.declared.expr.Value.{Value, roll-Value}
+use Rattle.mr_ast.proofs.Common.{◌≡◌, ℕ, List, [], ◌∷◌, ◌++◌, sym, ap, ◌∙◌, codes, decimal, IntType, Num, Ty, FnName, GlobalName, LocalName, UnaryOp, BinaryOp, Place, roll-Place, Value, roll-Value, Place-F, Value-F, map-Place, map-Value, fold-roll-Place, fold-roll-Value, Texts, int_word, num_words, words_of_type, NameTexts, text_at, unary_word, binary_word, words_of_place, words_of_value}
+use Rattle.std.specs.Prelude.{flat_map}
+use Rattle.mr_ast.specs.CanonValues.{place_words_step, value_words_step}
 use Rattle.mr_ast.specs.declared.expr.Place.TheVariants as place
 use Rattle.mr_ast.specs.declared.expr.Value.TheVariants as value
-use Rattle.mr_ast.specs.declared.expr.Place.TheOpen.{Place-F, Value-F}
-use Rattle.mr_ast.specs.declared.expr.Place.TheFolds.{map-Place, map-Value, fold-roll-Place, fold-roll-Value}
-use Rattle.mr_ast.specs.Words.{Texts}
-use Rattle.mr_ast.specs.CanonTypes.{int_word, num_words, words_of_type}
-use Rattle.mr_ast.specs.CanonValues.{NameTexts, text_at, unary_word, binary_word, place_words_step, value_words_step, words_of_place, words_of_value}
 use Rattle.mr_ast.proofs.CanonTypeLaws.{flat_map-map}
 
 module _ (names : NameTexts) where

@@ -1,7 +1,7 @@
 -- The answer whether two types are equal.
-use Rattle.std.proofs.Common.{◌≡◌, ◌↔◌, Bool, IsTrue}
+use Rattle.mr_ast.proofs.Common.{◌≡◌, Bool, Ty}
+use Rattle.std.proofs.Common.{◌↔◌, IsTrue}
 use Rattle.std.specs.Bool.{one_answer}
-use Rattle.mr_ast.specs.declared.types.Ty.{Ty}
 use Rattle.mr_ast.specs.Equal.{equal_types, equal_types_decides}
 
 -- there is no other one

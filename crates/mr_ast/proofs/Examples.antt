@@ -1,23 +1,22 @@
 -- Small programs, and whether they are shaped.
-use Rattle.std.proofs.Common.{◌≡◌, ℕ, ◌<◌, true, false, [], ◌∷◌, All, inl, refl, sym, ◌∙◌, true≢false, arith, codes, lit<, lit≤}
+use Rattle.mr_ast.proofs.Common.{◌≡◌, ℕ, ◌<◌, true, false, [], ◌∷◌, inl, refl, sym, ◌∙◌, true≢false, arith, codes, Num, LocalName}
+use Rattle.std.proofs.Common.{All, lit<, lit≤}
 use Rattle.std.proofs.lemmas.List.Elements.{All-cons, All-head}
 use Rattle.mr_ast.specs.declared.types.IntType.TheVariants.{U8, U64}
-use Rattle.mr_ast.specs.declared.types.Num.{Num}
-use Rattle.mr_ast.specs.declared.types.Ty.TheVariants as ty
-use Rattle.mr_ast.specs.declared.expr.Place.TheVariants as place
-use Rattle.mr_ast.specs.declared.expr.Value.TheVariants as value
-use Rattle.mr_ast.specs.declared.program.LocalName.{LocalName}
 use Rattle.mr_ast.specs.declared.program.BlockKind.TheVariants.{Regular}
-use Rattle.mr_ast.specs.declared.program.Item_.TheVariants as item
 use Rattle.mr_ast.specs.declared.program.Global_.{Global_}
 use Rattle.mr_ast.specs.declared.program.Local.{Local}
 use Rattle.mr_ast.specs.declared.program.Stmt.{Stmt}
-use Rattle.mr_ast.specs.declared.program.Stmt.TheVariants as stmt
-use Rattle.mr_ast.specs.declared.program.Term.TheVariants as term
 use Rattle.mr_ast.specs.declared.program.Block.{Block}
 use Rattle.mr_ast.specs.declared.program.Function.{Function}
 use Rattle.mr_ast.specs.declared.program.Program.{Program}
 use Rattle.mr_ast.specs.Shaped.{named_in, is_shaped_stmt, ShapedItem, ShapedGlobal, ShapedLocal, ShapedBlock, ShapedFunction, Shaped}
+use Rattle.mr_ast.specs.declared.types.Ty.TheVariants as ty
+use Rattle.mr_ast.specs.declared.expr.Place.TheVariants as place
+use Rattle.mr_ast.specs.declared.expr.Value.TheVariants as value
+use Rattle.mr_ast.specs.declared.program.Item_.TheVariants as item
+use Rattle.mr_ast.specs.declared.program.Stmt.TheVariants as stmt
+use Rattle.mr_ast.specs.declared.program.Term.TheVariants as term
 use Rattle.mr_ast.proofs.ShapedLaws.{shaped_type_laws, shaped_value_laws}
 
 -- `global g align 1 { 9 * REPEAT }`

@@ -1,24 +1,14 @@
 -- What is written of trees and types into a hasher, one equation for each kind; and what is written of a list, part by part.
-use Rattle.std.proofs.Common.{◌≡◌, ℕ, ◌+◌, ◌<◌, Bool, List, [], ◌∷◌, ◌++◌, map, take, get_or, length, refl, sym, ap, ap₂, ◌∙◌}
-use Rattle.std.specs.Prelude.{fold}
+use Rattle.mr_ast.proofs.Common.{◌≡◌, ℕ, ◌+◌, ◌<◌, Bool, List, [], ◌∷◌, ◌++◌, map, take, get_or, length, refl, sym, ap, ◌∙◌, fold, flat_map, IntType, Num, Tree, Tree-F, fold-roll-Tree, Ty, roll-Ty, Ty-F, map-Ty, fold-Variant, fold-roll-Ty, fold-roll-Variant, Variant, out-Variant, chunk_writes, case_writes, field_writes, variant_writes}
+use Rattle.std.proofs.Common.{ap₂}
 use Rattle.std.proofs.lemmas.List.{length-map, take_more, append-nil}
 use Rattle.std.proofs.lemmas.List.Sums.{fold-append}
 use Rattle.std.proofs.lemmas.Grind.{flat_map-append}
-use Rattle.std.specs.Hash as fed
 use Rattle.std.specs.Hash.{HashWrites}
-use Rattle.std.specs.List.{flat_map}
-use Rattle.mr_ast.specs.declared.types.IntType.{IntType}
-use Rattle.mr_ast.specs.declared.types.Num.{Num}
-use Rattle.mr_ast.specs.declared.types.Tree.{Tree}
+use Rattle.mr_ast.specs.Hashed.{truth_number, int_writes, num_writes, case_step, tree_step, tree_writes, head_writes, field_step, type_step, variant_step, type_writes}
+use Rattle.std.specs.Hash as fed
 use Rattle.mr_ast.specs.declared.types.Tree.TheVariants as tree
-use Rattle.mr_ast.specs.declared.types.Tree.TheOpen.{Tree-F}
-use Rattle.mr_ast.specs.declared.types.Tree.TheFolds.{fold-roll-Tree}
-use Rattle.mr_ast.specs.declared.types.Ty.{Ty, roll-Ty}
 use Rattle.mr_ast.specs.declared.types.Ty.TheVariants as ty
-use Rattle.mr_ast.specs.declared.types.Ty.TheOpen.{Ty-F}
-use Rattle.mr_ast.specs.declared.types.Ty.TheFolds.{map-Ty, fold-Variant, fold-roll-Ty, fold-roll-Variant}
-use Rattle.mr_ast.specs.declared.types.Variant.{Variant, out-Variant}
-use Rattle.mr_ast.specs.Hashed.{truth_number, int_writes, num_writes, chunk_writes, case_step, tree_step, tree_writes, case_writes, head_writes, field_step, type_step, variant_step, type_writes, field_writes, variant_writes}
 use Rattle.mr_ast.proofs.CanonTypeLaws.{flat_map-map}
 
 -- ---- lists

@@ -1,6 +1,5 @@
 -- The text of a name whose position has nothing.
-use Rattle.std.proofs.Common.{◌≡◌, ℕ, zero, suc, List, [], ◌∷◌, map, slice_get, None, refl}
-use Rattle.mr_ast.specs.CanonValues.{text_at}
+use Rattle.mr_ast.proofs.Common.{◌≡◌, ℕ, zero, suc, List, [], ◌∷◌, map, slice_get, None, refl, text_at}
 
 pub text_missing : {X : Type 0} (f : X → List ℕ) (xs : List X) (k : ℕ) → slice_get xs k ≡ None → text_at (map f xs) k ≡ []
 text_missing f [] k none = refl

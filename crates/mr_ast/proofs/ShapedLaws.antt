@@ -1,32 +1,14 @@
 -- The equations of the tests of shape, one for each kind of tree, type, place and value.
-use Rattle.std.proofs.Common.{◌≡◌, ℕ, Bool, true, List, [], ◌∷◌, map, refl, sym, ap, ◌∙◌}
+use Rattle.mr_ast.proofs.Common.{◌≡◌, ℕ, Bool, true, List, [], ◌∷◌, map, refl, sym, ap, ◌∙◌, IntType, Num, Tree, Tree-F, fold-roll-Tree, Ty, roll-Ty, Ty-F, map-Ty, fold-Variant, fold-roll-Ty, fold-roll-Variant, Variant, out-Variant, FnName, GlobalName, LocalName, UnaryOp, BinaryOp, Place, roll-Place, Value, roll-Value, Place-F, Value-F, map-Place, map-Value, fold-roll-Place, fold-roll-Value}
 use Rattle.std.specs.Prelude.{◌&&◌, nat_lt}
 use Rattle.std.specs.List.{list_all}
 use Rattle.std.proofs.lemmas.List.Folds.{list_all-map}
-use Rattle.mr_ast.specs.declared.types.IntType.{IntType}
-use Rattle.mr_ast.specs.declared.types.Num.{Num}
-use Rattle.mr_ast.specs.declared.types.Tree.{Tree}
-use Rattle.mr_ast.specs.declared.types.Tree.TheVariants as tree
-use Rattle.mr_ast.specs.declared.types.Tree.TheOpen.{Tree-F}
-use Rattle.mr_ast.specs.declared.types.Tree.TheFolds.{fold-roll-Tree}
-use Rattle.mr_ast.specs.declared.types.Ty.{Ty, roll-Ty}
-use Rattle.mr_ast.specs.declared.types.Ty.TheVariants as ty
-use Rattle.mr_ast.specs.declared.types.Ty.TheOpen.{Ty-F}
-use Rattle.mr_ast.specs.declared.types.Ty.TheFolds.{map-Ty, fold-Variant, fold-roll-Ty, fold-roll-Variant}
-use Rattle.mr_ast.specs.declared.types.Variant.{Variant, out-Variant}
-use Rattle.mr_ast.specs.declared.program.FnName.{FnName}
-use Rattle.mr_ast.specs.declared.program.GlobalName.{GlobalName}
-use Rattle.mr_ast.specs.declared.program.LocalName.{LocalName}
-use Rattle.mr_ast.specs.declared.expr.UnaryOp.{UnaryOp}
-use Rattle.mr_ast.specs.declared.expr.BinaryOp.{BinaryOp}
-use Rattle.mr_ast.specs.declared.expr.Place.{Place, roll-Place}
-use Rattle.mr_ast.specs.declared.expr.Value.{Value, roll-Value}
-use Rattle.mr_ast.specs.declared.expr.Place.TheVariants as place
-use Rattle.mr_ast.specs.declared.expr.Value.TheVariants as value
-use Rattle.mr_ast.specs.declared.expr.Place.TheOpen.{Place-F, Value-F}
-use Rattle.mr_ast.specs.declared.expr.Place.TheFolds.{map-Place, map-Value, fold-roll-Place, fold-roll-Value}
 use Rattle.mr_ast.specs.ShapedTypes.{fits_u64, is_shaped_num, is_shaped_chunk, shaped_tree_step, is_shaped_tree, is_shaped_case, shaped_type_step, shaped_variant_step, is_shaped_type, is_shaped_field, is_shaped_variant}
 use Rattle.mr_ast.specs.ShapedValues.{Named, shaped_place_step, shaped_value_step, is_shaped_place, is_shaped_value}
+use Rattle.mr_ast.specs.declared.types.Tree.TheVariants as tree
+use Rattle.mr_ast.specs.declared.types.Ty.TheVariants as ty
+use Rattle.mr_ast.specs.declared.expr.Place.TheVariants as place
+use Rattle.mr_ast.specs.declared.expr.Value.TheVariants as value
 
 pub shaped_known : (n : Num) → is_shaped_tree (tree.Known n) ≡ is_shaped_num n
 unfolding is_shaped_tree

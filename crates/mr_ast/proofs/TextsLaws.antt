@@ -1,11 +1,10 @@
 -- Texts that are held one after another: how one is added.
-use Rattle.std.proofs.Common.{◌≡◌, ◌≢◌, ℕ, zero, suc, ◌+◌, ◌≤◌, true, false, ◌||◌, List, [], ◌∷◌, ◌++◌, length, slice_get, Some, refl, sym, ap, arith, inl, inr, bytes_eq, if◌then◌else◌, length-append}
-use Rattle.std.specs.List.{list_any}
+use Rattle.mr_ast.proofs.Common.{◌≡◌, ◌≢◌, ℕ, zero, suc, ◌+◌, true, false, List, [], ◌∷◌, ◌++◌, length, slice_get, Some, refl, sym, ap, arith, inl, inr, bytes_eq, if◌then◌else◌, list_any, Texts}
+use Rattle.std.proofs.Common.{◌≤◌, ◌||◌, length-append}
 use Rattle.std.proofs.lemmas.Bool.{false_from_ne_true}
 use Rattle.std.proofs.lemmas.Slice.Eq.{bytes_eq-Decides}
 use Rattle.mr_ast.specs.Names.{Adds}
 use Rattle.mr_ast.specs.Scope.{with_text}
-use Rattle.mr_ast.specs.Words.{Texts}
 
 -- a text that stands at some place is there
 pub any_first : (t : List ℕ) (ts : Texts) (n : ℕ) → slice_get ts n ≡ Some t → list_any (bytes_eq t) ts ≡ true

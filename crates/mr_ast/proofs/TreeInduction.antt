@@ -1,11 +1,8 @@
 -- Induction over trees, one case for each kind, and what a tree is made of.
-use Rattle.std.proofs.Common.{◌≡◌, ℕ, List, [], ◌∷◌, map, sym, ap, subst}
-use Rattle.mr_ast.specs.declared.types.IntType.{IntType}
-use Rattle.mr_ast.specs.declared.types.Num.{Num}
-use Rattle.mr_ast.specs.declared.types.Tree.{Tree, roll-Tree, out-Tree, out-roll-Tree}
-use Rattle.mr_ast.specs.declared.types.Tree.TheVariants as tree
-use Rattle.mr_ast.specs.declared.types.Tree.TheOpen.{Tree-F}
+use Rattle.mr_ast.proofs.Common.{◌≡◌, ℕ, List, [], ◌∷◌, map, sym, ap, subst, IntType, Num, Tree, Tree-F}
+use Rattle.mr_ast.specs.declared.types.Tree.{roll-Tree, out-Tree, out-roll-Tree}
 use Rattle.mr_ast.specs.declared.types.Tree.TheFolds.{map-Tree, ind-Tree}
+use Rattle.mr_ast.specs.declared.types.Tree.TheVariants as tree
 
 -- the tree of each case has the property
 abbrev pub AllCases : (Tree → Type 0) → List (Num × Tree) → Type 0

@@ -1,22 +1,16 @@
 -- The word of a thing, looked up in its table, gives the thing back.
-use Rattle.std.proofs.Common.{◌≡◌, ℕ, List, Bool, true, false, None, Some, refl, ap, sym, arith, inl, inr, codes}
-use Rattle.std.specs.Prelude.{bytes_eq, decimal, if◌then◌else◌}
+use Rattle.mr_ast.proofs.Common.{◌≡◌, ℕ, List, Bool, true, false, None, Some, refl, ap, sym, arith, inl, inr, codes, bytes_eq, decimal, if◌then◌else◌, IntType, UnaryOp, BinaryOp, int_word, unary_word, binary_word}
 use Rattle.std.proofs.lemmas.Fmt.{decimal_digit}
 use Rattle.std.proofs.lemmas.Option.{same_Some}
-use Rattle.mr_ast.specs.declared.types.IntType.{IntType}
-use Rattle.mr_ast.specs.declared.types.IntType.TheVariants as int
-use Rattle.mr_ast.specs.declared.expr.UnaryOp.{UnaryOp}
-use Rattle.mr_ast.specs.declared.expr.UnaryOp.TheVariants as unary
-use Rattle.mr_ast.specs.declared.expr.BinaryOp.{BinaryOp}
-use Rattle.mr_ast.specs.declared.expr.BinaryOp.TheVariants as binary
 use Rattle.mr_ast.specs.declared.program.BlockKind.{BlockKind}
-use Rattle.mr_ast.specs.declared.program.BlockKind.TheVariants as kind
 use Rattle.mr_ast.specs.declared.program.Intrinsic.{Intrinsic}
-use Rattle.mr_ast.specs.declared.program.Intrinsic.TheVariants as intrinsic
 use Rattle.mr_ast.specs.Words.{IsEdition, edition_words, looked_up, int_words, unary_words, binary_words, kind_words, intrinsic_words}
-use Rattle.mr_ast.specs.CanonTypes.{int_word}
-use Rattle.mr_ast.specs.CanonValues.{unary_word, binary_word}
 use Rattle.mr_ast.specs.Canon.{kind_word, intrinsic_word}
+use Rattle.mr_ast.specs.declared.types.IntType.TheVariants as int
+use Rattle.mr_ast.specs.declared.expr.UnaryOp.TheVariants as unary
+use Rattle.mr_ast.specs.declared.expr.BinaryOp.TheVariants as binary
+use Rattle.mr_ast.specs.declared.program.BlockKind.TheVariants as kind
+use Rattle.mr_ast.specs.declared.program.Intrinsic.TheVariants as intrinsic
 
 -- the word of an edition names it
 pub edition_word_found : (n : ℕ) → IsEdition n → looked_up edition_words (decimal n) ≡ Some n

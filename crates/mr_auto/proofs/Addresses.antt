@@ -1,16 +1,13 @@
 -- An address that is found: it is aligned, behind all that was found before, and none that is bad.
-use Rattle.std.proofs.Common.{◌≡◌, ◌≢◌, ℕ, ◌<◌, ◌≤◌, ◌+◌, ◌-◌, ◌*◌, ◌/◌, ◌%◌, ◌^◌, refl, ap, ◌∙◌, subst, arith, Bool, true, false, not, ◌&&◌, Some, None}
+use Rattle.mr_auto.proofs.Common.{◌≡◌, ℕ, ◌<◌, ◌≤◌, ◌+◌, ◌-◌, ◌*◌, ◌/◌, ◌%◌, ◌^◌, refl, ap, ◌∙◌, subst, arith, Bool, true, false, not, Some, None, ◌==◌, nat_lt, if◌then◌else◌, mod-lt, same_Some, address_from, aligned_from, behind_address, behind_bytes, has_address, Chooser, found}
+use Rattle.std.proofs.Common.{◌≢◌, ◌&&◌}
 use native.Mathlib.Decide.{ℕ_discrete}
-use Rattle.std.specs.Prelude.{◌==◌, ◌||◌, nat_lt, if◌then◌else◌}
-use Rattle.std.proofs.Math.Nat.{add-mod_right, mod-add-div', mod-eq_of_lt, mod-lt, mod_self, mul-mod_left}
+use Rattle.std.specs.Prelude.{◌||◌}
+use Rattle.std.proofs.Math.Nat.{add-mod_right, mod-add-div', mod-eq_of_lt, mod_self, mul-mod_left}
 use Rattle.std.proofs.lemmas.Bool.{ltb-true}
 use Rattle.std.proofs.lemmas.Bool.Decides.{nat_tests}
-use Rattle.std.proofs.lemmas.Option.{same_Some}
 use Rattle.mr_base.specs.Pairs.{is_meeting}
 use Rattle.mr_start.specs.MemMemory.{is_bad_address}
-use Rattle.mr_sched.specs.Chooser.{address_from, aligned_from, behind_address, behind_bytes, has_address}
-use Rattle.mr_sched.specs.declared.chooser.Chooser.{Chooser}
-use Rattle.mr_auto.specs.Drawing.{found}
 
 -- ---- tests
 

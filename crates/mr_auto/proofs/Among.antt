@@ -1,6 +1,6 @@
 -- The candidates among one thread more.
-use Rattle.std.proofs.Common.{◌≡◌, ℕ, ◌+◌, sym, ap, ◌∙◌, zero-add, append-nil, List, [], ◌∷◌, ◌++◌, Bool, true, false}
-use Rattle.std.specs.List.{filter, range_with_len}
+use Rattle.mr_auto.proofs.Common.{◌≡◌, ℕ, ◌+◌, sym, ap, ◌∙◌, append-nil, List, [], ◌∷◌, ◌++◌, Bool, true, false, filter, range_with_len}
+use Rattle.std.proofs.Common.{zero-add}
 use Rattle.std.proofs.lemmas.List.Elements.{filter-append}
 use Rattle.mr_run.proofs.ExchangeLists.{range_with_len-parts}
 

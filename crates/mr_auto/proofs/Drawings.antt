@@ -1,25 +1,10 @@
 -- The whole draw: its start line, and the run that the entries behind it are drawn in.
-use Rattle.std.proofs.Common.{◌≡◌, ℕ, ◌+◌, ◌<◌, ◌≤◌, ◌^◌, refl, sym, ap, ap₂, ◌∙◌, subst, arith, List, [], ◌∷◌, map, Some, None}
-use Rattle.mr_ast.specs.declared.program.Program.{Program}
-use Rattle.mr_base.specs.declared.thread.Status.TheVariants.{Enabled}
-use Rattle.mr_run.specs.StepPlanLegal.{Fault}
-use Rattle.mr_run.specs.StepPlanRuns.{after, feet}
-use Rattle.mr_sched.specs.Chooser.{first_chooser}
-use Rattle.mr_sched.specs.declared.chooser.Chooser.{Chooser}
-use Rattle.mr_sched.specs.declared.schedule.Ask.{Ask}
-use Rattle.mr_sched.specs.declared.schedule.Entry.{Entry}
+use Rattle.mr_auto.proofs.Common.{◌≡◌, ℕ, ◌+◌, ◌<◌, ◌≤◌, ◌^◌, refl, sym, ap, ap₂, ◌∙◌, subst, arith, List, [], ◌∷◌, map, Some, None, Program, Enabled, Fault, after, feet, first_chooser, Chooser, Ask, Entry, thread_step, WellFormed, Piece, ask_of, look_of, pieces, start_config, start_fault, Standing, AreAddresses, Picked, drawn_schedule, picked, schedule_from, start_picked, BeginsDrawing, DrawnAfter, drawn_from_here}
 use Rattle.mr_sched.specs.declared.schedule.Schedule.{Schedule}
-use Rattle.mr_start.specs.Steps.{thread_step}
-use Rattle.mr_typing.specs.Walk.{WellFormed}
 use Rattle.mr_run.specs.Runs.{IsRun}
 use Rattle.mr_start.specs.Runs.{Legal, run_of, steps_of}
-use Rattle.mr_start.specs.Start.{Piece, ask_of, look_of, pieces, start_config, start_fault}
 use Rattle.mr_start.proofs.StartSound.{start_look, start_sound}
 use Rattle.mr_run.specs.StepAnswers.{standing}
-use Rattle.mr_run.specs.StepStanding.{Standing}
-use Rattle.mr_auto.specs.Answers.{AreAddresses}
-use Rattle.mr_auto.specs.Drawing.{Picked, drawn_schedule, picked, schedule_from, start_picked}
-use Rattle.mr_auto.specs.Drawn.{BeginsDrawing, DrawnAfter, drawn_from_here}
 use Rattle.mr_auto.proofs.LegalRuns.{schedule_legal}
 use Rattle.mr_auto.proofs.StartFound.{start_found}
 use Rattle.mr_auto.proofs.Starts.{start_legal, start_lies}

@@ -1,28 +1,21 @@
 -- Drawing one entry more.
-use Rattle.std.proofs.Common.{◌≡◌, ℕ, suc, ◌+◌, ◌-◌, ◌<◌, ◌≤◌, refl, sym, ap, ◌∙◌, subst, arith, List, [], ◌∷◌, ◌++◌, length, length-append, append-nil, append_assoc, Bool, true, false, not, Option, Some, None}
-use Rattle.std.specs.Prelude.{slice_get, if◌then◌else◌}
+use Rattle.mr_auto.proofs.Common.{◌≡◌, ℕ, suc, ◌+◌, ◌-◌, ◌<◌, ◌≤◌, refl, sym, ap, ◌∙◌, subst, arith, List, [], ◌∷◌, ◌++◌, length, append-nil, append_assoc, Bool, true, false, not, Option, Some, None, slice_get, if◌then◌else◌, Chooser, Entry, Bare, Completed, Goes, IllFormedStep, State, Stops, bare, Config, after, after_bare, feet, is_running, machine_step, stepped_from, Look, Own, thread_step, Standing, NextAnswer, Next, drawn_entries, led, next_at, BeginsDrawing, DrawnAfter, drawn_from_here}
+use Rattle.std.proofs.Common.{length-append}
 use Rattle.mr_base.specs.declared.reached.Reached.{Reached}
 use Rattle.mr_base.specs.declared.reason.Verdict.{Verdict}
-use Rattle.mr_base.specs.declared.reason.Verdict.TheVariants as verdict
 use Rattle.mr_run.specs.EventFootprint.{Footprint}
 use Rattle.mr_start.specs.MemMemory.{leaks}
-use Rattle.mr_sched.specs.declared.chooser.Chooser.{Chooser}
-use Rattle.mr_sched.specs.declared.schedule.Entry.{Entry}
 use Rattle.mr_base.specs.Script.{Broken, Outcome, Refused, Went}
-use Rattle.mr_run.specs.StepPlanMachine.{Aborts, Bare, Completed, Exits, Flow, Goes, IllFormedStep, Language, State, Stops, Thread, acted, bare, settled}
+use Rattle.mr_run.specs.StepPlanMachine.{Aborts, Exits, Flow, Language, Thread, acted, settled}
 use Rattle.mr_run.specs.StepPlanNotes.{Notes}
 use Rattle.mr_run.specs.StepPlanQueries.{Shared}
-use Rattle.mr_run.specs.StepPlanRuns.{Config, after, after_bare, feet, foot_from, has_rule, is_ill_formed, is_running, machine_step, stepped_from}
+use Rattle.mr_run.specs.StepPlanRuns.{foot_from, has_rule, is_ill_formed}
 use Rattle.mr_run.proofs.StepPlanRunLaws.{completed_by_step}
-use Rattle.mr_start.specs.FrameFrames.{Look}
-use Rattle.mr_start.specs.Steps.{Own, thread_step}
 use Rattle.mr_start.specs.Runs.{program_fault, program_step}
-use Rattle.mr_run.specs.StepStanding.{Standing}
 use Rattle.mr_run.specs.Runs.{IsMade, foot_by}
 use Rattle.mr_run.proofs.EntryLaws.{one_foot}
-use Rattle.mr_auto.specs.Answers.{HasState, NextAnswer}
-use Rattle.mr_auto.specs.Drawing.{Next, drawn_entries, led, next_at}
-use Rattle.mr_auto.specs.Drawn.{BeginsDrawing, DrawnAfter, drawn_from_here}
+use Rattle.mr_auto.specs.Answers.{HasState}
+use Rattle.mr_base.specs.declared.reason.Verdict.TheVariants as verdict
 use Rattle.mr_auto.proofs.Steps.{drawn_at, next_legal, next_lies, next_sound}
 
 -- ---- a machine that runs on has a state

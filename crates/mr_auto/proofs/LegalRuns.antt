@@ -1,11 +1,7 @@
 -- The schedule that is drawn for a well-formed program is legal.
-use Rattle.std.proofs.Common.{◌≡◌, ℕ, sym, subst, Some}
-use Rattle.mr_ast.specs.declared.program.Program.{Program}
-use Rattle.mr_typing.specs.Walk.{WellFormed}
+use Rattle.mr_auto.proofs.Common.{◌≡◌, ℕ, sym, subst, Some, Program, WellFormed, look_of, start_config, Picked, drawn_schedule, schedule_from, start_picked}
 use Rattle.mr_start.specs.Runs.{Legal}
-use Rattle.mr_start.specs.Start.{look_of, start_config}
 use Rattle.mr_start.proofs.StartSound.{start_look, start_sound}
-use Rattle.mr_auto.specs.Drawing.{Picked, drawn_schedule, schedule_from, start_picked}
 use Rattle.mr_auto.proofs.StartFound.{start_found}
 use Rattle.mr_auto.proofs.Starts.{start_legal, start_lies}
 use Rattle.mr_auto.proofs.Steps.{entries_legal}

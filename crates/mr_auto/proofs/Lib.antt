@@ -1,5 +1,6 @@
 pub mod Addresses
 pub mod Among
+mod Common
 pub mod Drawings
 pub mod DrawnSoFar
 pub mod LegalRuns

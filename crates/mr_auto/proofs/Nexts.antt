@@ -1,16 +1,8 @@
 -- The next entry, from what the code finds.
-use Rattle.std.proofs.Common.{◌≡◌, ℕ, refl, sym, ap, ◌∙◌, List, [], ◌∷◌, Bool, true, false, Option, Some, None, Result, Ok, Err}
-use Rattle.std.specs.Prelude.{IfOk, is_some, ◌==◌, length, if◌then◌else◌}
+use Rattle.mr_auto.proofs.Common.{◌≡◌, ℕ, refl, sym, ap, ◌∙◌, List, [], ◌∷◌, Bool, true, false, Option, Some, None, Result, Ok, Err, ◌==◌, length, if◌then◌else◌, behind_draw, Chooser, Ask, Fault, creation_fault, State, needs, Look, Own, thread_step, Config, is_running, candidate, enabled_in, entry_by, entry_from, entry_of, next_at, next_in, picked, within_limits}
+use Rattle.std.specs.Prelude.{IfOk, is_some}
 use Rattle.std.specs.Option.{option_map}
-use Rattle.mr_sched.specs.Chooser.{behind_draw, drawn_from}
-use Rattle.mr_sched.specs.declared.chooser.Chooser.{Chooser}
-use Rattle.mr_sched.specs.declared.schedule.Ask.{Ask}
-use Rattle.mr_run.specs.StepPlanLegal.{Fault, creation_fault}
-use Rattle.mr_run.specs.StepPlanMachine.{State, needs}
-use Rattle.mr_start.specs.FrameFrames.{Look}
-use Rattle.mr_start.specs.Steps.{Own, thread_step}
-use Rattle.mr_run.specs.StepPlanRuns.{Config, is_running}
-use Rattle.mr_auto.specs.Drawing.{candidate, enabled_in, entry_by, entry_from, entry_of, next_at, next_in, picked, within_limits}
+use Rattle.mr_sched.specs.Chooser.{drawn_from}
 
 -- no code is told, so no limit is reached
 pub no_limit : (o : Option Fault) (r : Option ℕ) → r ≡ option_map (λ (f : Fault). f.code) o → is_some r ≡ false → o ≡ None

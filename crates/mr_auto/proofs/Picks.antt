@@ -1,22 +1,12 @@
 -- The picks that are drawn meet what is asked, behind all that was picked before.
-use Rattle.std.proofs.Common.{◌≡◌, ℕ, zero, suc, ◌<◌, ◌≤◌, ◌/◌, ◌^◌, refl, sym, ap, ◌∙◌, subst, inl, inr, arith, List, [], ◌∷◌, length, get_or, Bool, true, false, Option, Some, None}
-use Rattle.std.specs.Prelude.{Contains, slice_get, if◌then◌else◌}
-use Rattle.std.specs.List.{filter, range_with_len}
-use Rattle.std.proofs.Math.Nat.{mod-lt}
-use Rattle.std.proofs.lemmas.Option.{same_Some}
-use Rattle.mr_base.specs.declared.thread.Status.{Status}
+use Rattle.mr_auto.proofs.Common.{◌≡◌, ℕ, zero, suc, ◌<◌, ◌≤◌, ◌/◌, ◌^◌, refl, sym, ap, ◌∙◌, subst, inl, inr, arith, List, [], ◌∷◌, length, get_or, Bool, true, false, Option, Some, None, Contains, slice_get, if◌then◌else◌, filter, range_with_len, mod-lt, same_Some, Status, behind_address, behind_draw, Chooser, Ask, on_lock, Contains-nil, IsTaken, addresses, Picked, candidate, found, picked, put, EndsBy}
 use Rattle.mr_start.specs.MemMemory.{Ranges}
-use Rattle.mr_sched.specs.Chooser.{behind_address, behind_draw, drawn, position_in}
-use Rattle.mr_sched.specs.declared.chooser.Chooser.{Chooser}
-use Rattle.mr_sched.specs.declared.schedule.Ask.{Ask}
+use Rattle.mr_sched.specs.Chooser.{drawn, position_in}
 use Rattle.mr_sched.specs.declared.schedule.Ask.TheVariants.{Address, Waiter}
-use Rattle.mr_start.specs.SyncTables.{on_lock}
-use Rattle.mr_run.proofs.StepPlanElementLaws.{Contains-nil}
-use Rattle.mr_run.specs.StepSwapMeets.{IsTaken, MeetsAfter, addresses}
+use Rattle.mr_run.specs.StepSwapMeets.{MeetsAfter}
 use Rattle.mr_run.proofs.StepSwapElementTests.{front_cases}
 use Rattle.mr_run.proofs.StepSwapMeetsLaws.{clear_from}
-use Rattle.mr_auto.specs.Drawing.{Picked, candidate, found, picked, put, threads_where, waiting_in}
-use Rattle.mr_auto.specs.Drawn.{EndsBy}
+use Rattle.mr_auto.specs.Drawing.{threads_where, waiting_in}
 use Rattle.mr_auto.proofs.Addresses.{apart_behind, bytes_behind, found_is, not_bad}
 
 -- ---- candidates

@@ -1,12 +1,9 @@
 -- Picks in front of those that are left.
-use Rattle.std.proofs.Common.{◌≡◌, ℕ, suc, ◌+◌, ◌<◌, refl, sym, ap, ◌∙◌, arith, List, [], ◌∷◌, ◌++◌, append-nil, append_assoc, drop, get_or, length, Option, Some, None}
+use Rattle.mr_auto.proofs.Common.{◌≡◌, ℕ, suc, ◌+◌, ◌<◌, refl, sym, ap, ◌∙◌, arith, List, [], ◌∷◌, ◌++◌, append-nil, append_assoc, drop, get_or, length, Option, Some, None, Status, Chooser, Ask, Picked, picked, put}
 use Rattle.std.proofs.Math.Seq.{drop-cons}
 use Rattle.std.specs.Option.{option_map}
-use Rattle.mr_base.specs.declared.thread.Status.{Status}
-use Rattle.mr_sched.specs.declared.chooser.Chooser.{Chooser}
-use Rattle.mr_sched.specs.declared.schedule.Ask.{Ask}
 use Rattle.mr_auto.specs.Answers.{PickAnswer, PicksAnswer}
-use Rattle.mr_auto.specs.Drawing.{Picked, behind_pick, pick_of, picked, put}
+use Rattle.mr_auto.specs.Drawing.{behind_pick, pick_of}
 
 -- these picks in front of what is picked
 abbrev pub behind_picks : List ℕ → Option Picked → Option Picked

@@ -1,30 +1,22 @@
 -- An address is found for all that the start of a well-formed program allocates.
-use Rattle.std.proofs.Common.{◌≡◌, ℕ, zero, suc, ◌+◌, ◌*◌, ◌<◌, ◌≤◌, ◌^◌, ◌-◌, ◌%◌, refl, sym, ap, ap₂, ◌∙◌, subst, arith, List, [], ◌∷◌, ◌++◌, length, map, Bool, true, false, Some, None}
-use Rattle.std.specs.Prelude.{All, count_ones, ◌==◌, nat_le, nat_lt, if◌then◌else◌, slice_get}
-use Rattle.std.proofs.Math.Nat.{mod-lt}
+use Rattle.mr_auto.proofs.Common.{◌≡◌, ℕ, zero, suc, ◌+◌, ◌*◌, ◌<◌, ◌≤◌, ◌^◌, ◌-◌, ◌%◌, refl, sym, ap, ap₂, ◌∙◌, subst, arith, List, [], ◌∷◌, ◌++◌, length, map, Bool, true, false, Some, None, ◌==◌, nat_lt, if◌then◌else◌, slice_get, mod-lt, Program, Status, Enabled, address_from, aligned_from, behind_address, behind_bytes, first_chooser, has_address, Chooser, WellFormed, Piece, ask_of, pieces, Picked, found, picked, put, start_picked}
+use Rattle.std.specs.Prelude.{All, count_ones, nat_le}
 use Rattle.std.proofs.lemmas.Bool.{lt-ltb, and_parts}
 use Rattle.std.proofs.lemmas.Bool.Decides.{nat_tests}
 use Rattle.std.proofs.lemmas.List.Elements.{All-append, All-cons, All-head, All-nil, All-tail}
 use Rattle.mr_ast.specs.declared.program.Function.{Function}
 use Rattle.mr_ast.specs.declared.program.Global_.{Global_}
 use Rattle.mr_ast.specs.declared.program.Local.{Local}
-use Rattle.mr_ast.specs.declared.program.Program.{Program}
 use Rattle.mr_base.proofs.Comparisons.{le_from}
-use Rattle.mr_base.specs.declared.thread.Status.{Status}
-use Rattle.mr_base.specs.declared.thread.Status.TheVariants.{Enabled}
 use Rattle.mr_layout.specs.Rules.{is_align}
 use Rattle.mr_layout.specs.TypeOk.{TypeOk}
 use Rattle.mr_layout.proofs.Bounds.{type_ok_small}
-use Rattle.mr_sched.specs.Chooser.{address_from, aligned_from, behind_address, behind_bytes, first_chooser, has_address}
-use Rattle.mr_sched.specs.declared.chooser.Chooser.{Chooser}
 use Rattle.mr_typing.specs.Broken.{items_size}
 use Rattle.mr_typing.specs.Unbroken.{UnbrokenFunction, UnbrokenGlobal}
-use Rattle.mr_typing.specs.Walk.{WellFormed}
 use Rattle.mr_typing.proofs.UnbrokenLaws.{well_formed_keeps}
 use Rattle.mr_layout.proofs.Aligned.{type_ok_aligned}
-use Rattle.mr_start.specs.Start.{Piece, ask_of, function_piece, global_piece, pieces, return_piece}
+use Rattle.mr_start.specs.Start.{function_piece, global_piece, return_piece}
 use Rattle.mr_start.proofs.StartFacts.{has_main, pieces_length, return_is}
-use Rattle.mr_auto.specs.Drawing.{Picked, found, picked, put, start_picked}
 use Rattle.mr_base.proofs.Lists.{all_at}
 
 -- ---- small pieces

@@ -1,31 +1,21 @@
 -- The picks of the start line are lawful, and what is found behind them lies behind all that the start allocates.
-use Rattle.std.proofs.Common.{◌≡◌, ℕ, ◌+◌, ◌-◌, refl, sym, ap, ◌∙◌, subst, inl, inr, arith, List, [], ◌∷◌, length, map, Bool, true, false, Option, Some, None, Result, Ok, Err}
-use Rattle.std.specs.Prelude.{◌==◌, if◌then◌else◌}
-use Rattle.std.proofs.lemmas.Option.{same_Some}
-use Rattle.std.specs.FinMap as fin
+use Rattle.mr_auto.proofs.Common.{◌≡◌, ℕ, ◌+◌, ◌-◌, refl, sym, ap, ◌∙◌, subst, inl, inr, arith, List, [], ◌∷◌, length, map, Bool, true, false, Option, Some, None, Result, Ok, Err, ◌==◌, if◌then◌else◌, same_Some, Program, Enabled, first_chooser, State, Contains-nil, Own, Piece, ask_of, look_of, pieces, start_config, start_fault, IsTaken, Picked, start_picked, EndsBy, LiesBehind}
 use Rattle.mr_ast.specs.declared.program.Global_.{Global_}
-use Rattle.mr_ast.specs.declared.program.Program.{Program}
 use Rattle.mr_base.specs.declared.byte.AbstractByte.{AbstractByte}
 use Rattle.mr_base.specs.declared.byte.AllocId.{AllocId}
 use Rattle.mr_base.specs.declared.byte.Pointer.{Pointer}
 use Rattle.mr_base.specs.declared.reason.Reason.{Reason}
 use Rattle.mr_base.specs.declared.reason.Reason.TheVariants.{Misaligned, NoProvenance}
-use Rattle.mr_base.specs.declared.thread.Status.TheVariants.{Enabled}
 use Rattle.mr_start.specs.MemMemory.{Allocation, Memory, allocated, inside, is_multiple, put_at, put_in, ranges_of, then_give, written}
 use Rattle.mr_start.proofs.MemIdentities.{get_here, get_there}
 use Rattle.mr_start.proofs.MemRangeLaws.{ranges-allocated, ranges-empty}
 use Rattle.mr_runs.specs.Ranges.{with_range_replaced}
-use Rattle.mr_sched.specs.Chooser.{first_chooser}
-use Rattle.mr_run.specs.StepPlanMachine.{State}
-use Rattle.mr_run.proofs.StepPlanElementLaws.{Contains-nil}
 use Rattle.mr_run.proofs.StepPlanIdentityCases.{id_cases}
 use Rattle.mr_run.proofs.StepPlanMemoryFacts.{Ranged}
-use Rattle.mr_start.specs.Steps.{Own}
-use Rattle.mr_start.specs.Start.{Piece, ask_of, behind_store, filled, global_bytes, look_of, pieces, placed, start_config, start_fault, start_memory, start_placed}
-use Rattle.mr_run.specs.StepSwapMeets.{IsTaken, ranges_after}
+use Rattle.mr_start.specs.Start.{behind_store, filled, global_bytes, placed, start_memory, start_placed}
+use Rattle.mr_run.specs.StepSwapMeets.{ranges_after}
 use Rattle.mr_run.proofs.StepSwapMeetsLaws.{after_only, legal_of_meets, taken_in, taken_of_memory}
-use Rattle.mr_auto.specs.Drawing.{Picked, start_picked}
-use Rattle.mr_auto.specs.Drawn.{EndsBy, LiesBehind}
+use Rattle.std.specs.FinMap as fin
 use Rattle.mr_auto.proofs.Picks.{ArePicks, picks_are}
 
 -- ---- stores take no range

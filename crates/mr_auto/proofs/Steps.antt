@@ -1,34 +1,19 @@
 -- A drawn entry is legal, and what is found next lies behind all that memory has then.
-use Rattle.std.proofs.Common.{◌≡◌, ℕ, zero, suc, ◌<◌, refl, sym, ap, ◌∙◌, subst, inl, inr, arith, List, [], Bool, true, false, Option, Some, None}
-use Rattle.std.specs.Prelude.{Contains, slice_get, if◌then◌else◌}
-use Rattle.std.proofs.lemmas.Option.{same_Some}
-use Rattle.mr_base.specs.declared.thread.Status.TheVariants.{Enabled}
+use Rattle.mr_auto.proofs.Common.{◌≡◌, ℕ, zero, suc, ◌<◌, refl, sym, ap, ◌∙◌, subst, inl, inr, arith, List, [], Bool, true, false, Option, Some, None, Contains, slice_get, if◌then◌else◌, same_Some, Enabled, behind_draw, Chooser, Ask, Entry, is_enabled, WellFormed, Fault, creation_fault, Bare, Completed, Goes, IllFormedStep, State, Stops, bare, needs, Config, after_bare, is_running, machine_step, stepped_from, Contains-nil, Look, Own, thread_step, IsTaken, addresses, Next, Picked, candidate, drawn_entries, enabled_in, entry_by, entry_of, led, next_at, next_in, picked, within_limits, EndsBy, LiesBehind}
 use Rattle.mr_start.specs.MemMemory.{ranges_of}
-use Rattle.mr_sched.specs.Chooser.{behind_draw}
-use Rattle.mr_sched.specs.declared.chooser.Chooser.{Chooser}
-use Rattle.mr_sched.specs.declared.schedule.Ask.{Ask}
-use Rattle.mr_sched.specs.declared.schedule.Entry.{Entry}
-use Rattle.mr_start.specs.SyncTables.{is_enabled}
-use Rattle.mr_typing.specs.Walk.{WellFormed}
-use Rattle.mr_run.specs.StepPlanLegal.{Fault, count_of, creation_fault, else_fault, fault, needs_fault, picks_fault, state_fault, status_fault}
-use Rattle.mr_run.specs.StepPlanMachine.{Bare, Completed, Goes, IllFormedStep, State, Stops, bare, needs}
+use Rattle.mr_run.specs.StepPlanLegal.{count_of, else_fault, fault, needs_fault, picks_fault, state_fault, status_fault}
 use Rattle.mr_run.specs.StepPlanNotes.{Notes}
-use Rattle.mr_run.specs.StepPlanRuns.{AreLegal, Config, after_bare, entry_fault, fault_in, is_running, machine_step, stepped_from}
-use Rattle.mr_run.proofs.StepPlanElementLaws.{Contains-nil}
+use Rattle.mr_run.specs.StepPlanRuns.{AreLegal, entry_fault, fault_in}
 use Rattle.mr_start.specs.FrameFits.{IsLook}
-use Rattle.mr_start.specs.FrameFrames.{Look}
-use Rattle.mr_start.specs.Steps.{Own, thread_step}
 use Rattle.mr_start.proofs.RunSound.{entry_sound}
 use Rattle.mr_start.specs.SoundState.{IsSoundConfig}
 use Rattle.mr_run.proofs.StepExchangeSane.{sound_is_sane}
 use Rattle.mr_run.proofs.StepExchangeTelling.{thread_step_tells}
-use Rattle.mr_run.specs.StepSwapMeets.{AreNewIn, IsTaken, addresses}
+use Rattle.mr_run.specs.StepSwapMeets.{AreNewIn}
 use Rattle.mr_run.proofs.StepSwapBareSteps.{needs_are, taken, whole, whole_run}
 use Rattle.mr_run.proofs.StepSwapMeetsLaws.{legal_of_meets, step_only}
 use Rattle.mr_run.proofs.StepSwapStepRuns.{memory_of}
 use Rattle.mr_run.proofs.StepEntryLaws.{enabled_is}
-use Rattle.mr_auto.specs.Drawing.{Next, Picked, candidate, drawn_entries, enabled_in, entry_by, entry_of, led, next_at, next_in, picked, within_limits}
-use Rattle.mr_auto.specs.Drawn.{EndsBy, LiesBehind}
 use Rattle.mr_auto.proofs.Picks.{ArePicks, candidate_passes, picks_are}
 use Rattle.mr_sched.specs.declared.rule.ScheduleRule.TheVariants as rule
 

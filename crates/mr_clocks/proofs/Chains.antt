@@ -1,8 +1,5 @@
 -- The links of a row, from one to the one before it.
-use Rattle.std.proofs.Common.{◌≡◌, ℕ, suc, ◌+◌, ◌<◌, ◌≤◌, ◌⊎◌, inl, inr, List, ◌++◌, length, refl, sym, ap, subst, arith}
-use Rattle.std.proofs.lemmas.List.{get_or_append_left}
-use Rattle.mr_clocks.specs.declared.rows.Link.{Link}
-use Rattle.mr_clocks.specs.Rows.{AreLinks, IsIn, link_at, no_link, step_of}
+use Rattle.mr_clocks.proofs.Common.{◌≡◌, ℕ, suc, ◌+◌, ◌<◌, ◌≤◌, ◌⊎◌, inl, inr, List, ◌++◌, length, refl, sym, ap, subst, arith, get_or_append_left, Link, AreLinks, IsIn, link_at, no_link, step_of}
 use Rattle.mr_clocks.specs.Rows.IsIn.{latest, behind}
 
 -- it is the first, or one of those that begin where the first leads to

@@ -1,7 +1,5 @@
 -- What holds of each element of a list holds of each where one joins them, or takes the place of another.
-use Rattle.std.proofs.Common.{◌≡◌, ℕ, ◌<◌, List, [], ◌∷◌, ◌++◌, length, length-append, get_or, set, sym, ◌∙◌, ap, subst, arith}
-use Rattle.std.proofs.lemmas.List.{get_or-set_other, get_or-set_same, get_or_append_left, get_or_push, length-set}
-use native.Mathlib.Decide.{ℕ_discrete}
+use Rattle.mr_clocks.proofs.Common.{◌≡◌, ℕ, ◌<◌, List, [], ◌∷◌, ◌++◌, length, length-append, get_or, set, sym, ◌∙◌, ap, subst, arith, get_or-set_other, get_or-set_same, get_or_append_left, get_or_push, length-set, ℕ_discrete}
 
 pub each_pushed : {A : Type 0} (P : A → Type 0) (none x : A) (old new : List A) → new ≡ old ++ x ∷ [] → ((i : ℕ) → i < length old → P (get_or old i none)) → P x → (i : ℕ) → i < length new → P (get_or new i none)
 each_pushed P none x old new e all own = λ i lt.

@@ -1,25 +1,11 @@
 -- The keys of a step as lists.
-use Rattle.std.proofs.Common.{◌≡◌, ℕ, ◌+◌, ◌<◌, ◌≤◌, ◌⊎◌, inl, inr, List, [], ◌∷◌, ◌++◌, Bool, true, false, map, length, get_or, take, refl, sym, ◌∙◌, ap, arith}
-use Rattle.std.specs.Prelude.{Some, ◌==◌, ◌&&◌, ◌||◌, slice_index, slice_index_or, All}
-use Rattle.std.specs.List.{Contains, list_any}
-use Rattle.std.proofs.lemmas.Bool.{and_from, and_parts, eq-eqb, eqb-true, false≢true, or_cases, or_left, or_right}
-use Rattle.std.proofs.lemmas.List.{append_assoc, get_or-map, length-map, map_more, take_all}
-use Rattle.std.proofs.lemmas.List.Elements.{All-append, All-cons, All-map, All-nil, Contains-append_left, Contains-append_right}
-use Rattle.std.proofs.lemmas.List.Folds.{list_any_at}
+use Rattle.mr_clocks.proofs.Common.{◌≡◌, ℕ, ◌+◌, ◌<◌, ◌≤◌, ◌⊎◌, inl, inr, List, [], ◌∷◌, ◌++◌, Bool, true, false, map, length, get_or, take, refl, sym, ◌∙◌, ap, arith, Some, ◌==◌, ◌&&◌, ◌||◌, slice_index, Contains, list_any, and_from, and_parts, eq-eqb, eqb-true, false≢true, or_cases, or_left, or_right, get_or-map, length-map, take_all, Contains-append_left, Contains-append_right, list_any_at, Access, AllocId, Event, Quiet, CreateLock, Acquire, Release, Spawn, Join, races, some_race, Footprint, lock_of, same_number, spawns, Key, Lock, Creation, Spawning, Starts, Joins, Made, Touched, Range, Wakes, Row, IsExact, asks, creates, end_asked, end_noted, event_asked, event_noted, has_row, joins, made_keys, range_keys, same_access, same_bool, spawns_some, starts, touched_keys, ArePlaces, IsRowFor}
+use Rattle.std.specs.Prelude.{slice_index_or, All}
+use Rattle.std.proofs.lemmas.List.{append_assoc, map_more}
+use Rattle.std.proofs.lemmas.List.Elements.{All-append, All-cons, All-map, All-nil}
 use Rattle.std.proofs.lemmas.Map.Views.{Contains-from_any}
-use Rattle.mr_base.specs.declared.access.Access.{Access}
-use Rattle.mr_base.specs.declared.byte.AllocId.{AllocId}
-use Rattle.mr_base.specs.declared.thread.Event.{Event}
-use Rattle.mr_base.specs.declared.thread.Event.TheVariants.{Quiet, CreateLock, Acquire, Release, Spawn, Join}
-use Rattle.mr_base.specs.Accesses.{races, some_race}
-use Rattle.mr_event.specs.Footprint.{Footprint}
 use Rattle.mr_base.specs.Identities.{same_id}
-use Rattle.mr_event.specs.Footprints.{lock_of, same_number, spawns}
-use Rattle.mr_clocks.specs.declared.keys.Key.{Key}
-use Rattle.mr_clocks.specs.declared.keys.Key.TheVariants.{Lock, Creation, Spawning, Starts, Joins, Made, Touched, Range, Wakes}
-use Rattle.mr_clocks.specs.declared.rows.Row.{Row}
-use Rattle.mr_clocks.specs.Keys.{IsExact, asks, creates, end_asked, end_noted, event_asked, event_noted, has_row, joins, keys_asked, keys_noted, made_keys, range_keys, same_access, same_bool, spawns_some, starts, touched_keys}
-use Rattle.mr_clocks.specs.Rows.{ArePlaces, IsRowFor}
+use Rattle.mr_clocks.specs.Keys.{keys_asked, keys_noted}
 use Rattle.mr_clocks.proofs.KeyLaws.{same_access_refl, same_id_refl}
 
 -- ---- lists that are made an element at a time

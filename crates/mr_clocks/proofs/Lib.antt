@@ -1,4 +1,5 @@
 pub mod Chains
+mod Common
 pub mod Each
 pub mod Edges
 pub mod Kept

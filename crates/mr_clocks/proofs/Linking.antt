@@ -1,9 +1,5 @@
 -- One more link behind others.
-use Rattle.std.proofs.Common.{◌≡◌, ℕ, ◌+◌, ◌<◌, ◌≤◌, List, [], ◌∷◌, ◌++◌, length, refl, sym, ◌∙◌, ap, subst, arith}
-use Rattle.std.proofs.lemmas.List.{get_or_append_left, get_or_push, length_push}
-use native.Mathlib.Decide.{ℕ_discrete}
-use Rattle.mr_clocks.specs.declared.rows.Link.{Link}
-use Rattle.mr_clocks.specs.Rows.{AreLinks, IsIn, IsKept, link_at, no_link, step_of}
+use Rattle.mr_clocks.proofs.Common.{◌≡◌, ℕ, ◌+◌, ◌<◌, ◌≤◌, List, [], ◌∷◌, ◌++◌, length, refl, sym, ◌∙◌, ap, subst, arith, get_or_append_left, get_or_push, length_push, ℕ_discrete, Link, AreLinks, IsIn, IsKept, link_at, no_link, step_of}
 use Rattle.mr_clocks.proofs.Chains.{in_behind, in_here, in_low, in_more}
 
 -- a link that keeps a later step than those behind it

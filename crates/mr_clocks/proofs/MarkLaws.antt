@@ -1,30 +1,20 @@
 -- Marks in their order, and the rows that are found by them.
-use Rattle.std.proofs.Common.{◌≡◌, ℕ, zero, suc, ◌⊎◌, inl, inr, ◌+◌, ◌-◌, ◌<◌, ◌≤◌, ◌^◌, List, [], ◌∷◌, ◌++◌, Bool, true, false, cond, map, length, length-append, get_or, min, take, refl, sym, ◌∙◌, ap, subst, arith}
-use Rattle.std.proofs.lemmas.Bool.{and_parts, both_ways}
-use Rattle.std.proofs.lemmas.List.{get_or-append-add, get_or-map, get_or-take, get_or_append_left, get_or_default, get_or_push, get_or_read, length-map, take-append-le, take-take, take_all}
+use Rattle.mr_clocks.proofs.Common.{◌≡◌, ℕ, suc, ◌⊎◌, inl, inr, ◌+◌, ◌-◌, ◌<◌, ◌≤◌, ◌^◌, List, [], ◌∷◌, ◌++◌, Bool, true, false, cond, map, length, length-append, get_or, take, refl, sym, ◌∙◌, ap, subst, arith, and_parts, both_ways, get_or-map, get_or-take, get_or_append_left, get_or_default, get_or_push, get_or_read, length-map, take-take, take_all, ℕ_discrete, dec_lt, ◌&&◌, ◌||◌, Contains, Access, conflicts, overlaps, Key, Lock, Creation, Spawning, Starts, Joins, Made, Touched, Range, Wakes, Shelf, Row, IsExact, AreKept, AreMarked, IsMarked, IsOnShelf, has_mark, mark_of, no_shelf, shelf_at, HaveKeysOf, IsGrown, IsListed, IsRowFor, no_row, row_at}
+use Rattle.std.proofs.Common.{zero, min}
+use Rattle.std.proofs.lemmas.List.{get_or-append-add, take-append-le}
 use Rattle.std.proofs.lemmas.Map.Lookups.{CmpEqualImpliesEq, exact_unsigned}
 use Rattle.std.proofs.lemmas.Map.Views.{Contains-from_any, any-filter_same, range_contains-from_IsInRange, tells_apart}
-use native.Mathlib.Decide.{ℕ_discrete, dec_lt}
-use Rattle.std.specs.Prelude.{◌&&◌, ◌||◌}
 use Rattle.std.specs.BTreeMap.{is_at}
 use Rattle.std.specs.BTreeMap.Range.{range_contains}
 use Rattle.std.specs.Cmp.{IsTotalOrder, on_total, then_total, nat_cmp_total, ranked}
-use Rattle.std.specs.List.{Contains, filter}
+use Rattle.std.specs.List.{filter}
 use Rattle.std.specs.Ordering.{eq_by_cmp, is_gt, nat_cmp, ordering_then}
 use Rattle.std.specs.declared.cmp.Ordering.{Ordering}
 use Rattle.std.specs.declared.cmp.Ordering.TheVariants.{Less, Equal, Greater}
 use Rattle.std.specs.declared.ops.Bound.TheVariants.{Included}
-use Rattle.mr_base.specs.declared.access.Access.{Access}
-use Rattle.mr_base.specs.Accesses.{conflicts, overlaps}
 use Rattle.mr_base.proofs.Comparisons.{lt_from}
-use Rattle.mr_clocks.specs.declared.keys.Key.{Key}
-use Rattle.mr_clocks.specs.declared.keys.Key.TheVariants.{Lock, Creation, Spawning, Starts, Joins, Made, Touched, Range, Wakes}
 use Rattle.mr_clocks.specs.declared.index.Mark.{Mark}
-use Rattle.mr_clocks.specs.declared.index.Shelf.{Shelf}
-use Rattle.mr_clocks.specs.declared.rows.Row.{Row}
-use Rattle.mr_clocks.specs.Keys.{IsExact}
-use Rattle.mr_clocks.specs.Marks.{AreKept, AreMarked, IsMarked, IsOnShelf, IsShelfOf, has_mark, mark_cmp, mark_of, no_shelf, place_of, shelf_at, shelf_of}
-use Rattle.mr_clocks.specs.Rows.{HaveKeysOf, IsGrown, IsListed, IsRowFor, no_row, row_at}
+use Rattle.mr_clocks.specs.Marks.{IsShelfOf, mark_cmp, place_of, shelf_of}
 
 -- ---- the order of marks
 

@@ -1,14 +1,6 @@
 -- Memos beside rows that grow, and beside rows that take links.
-use Rattle.std.proofs.Common.{◌≡◌, ℕ, ◌+◌, List, length, slice_index, refl, sym, ◌∙◌, ap, subst, arith}
-use Rattle.mr_event.specs.Footprint.{Footprint}
-use Rattle.mr_event.specs.Likeness.{DoTheSame}
+use Rattle.mr_clocks.proofs.Common.{◌≡◌, ℕ, ◌+◌, List, length, slice_index, refl, sym, ◌∙◌, ap, subst, arith, Footprint, DoTheSame, Key, Lock, Creation, Spawning, Starts, Joins, Made, Touched, Range, Wakes, Row, asks, has_row, AreMemos, IsMemo, IsMemoOf, memo_at, AreAllAsked, ArePlaces, HaveKeysOf, IsGrown, row_at}
 use Rattle.mr_event.proofs.AlikeLaws.{alike_equal}
-use Rattle.mr_clocks.specs.declared.keys.Key.{Key}
-use Rattle.mr_clocks.specs.declared.keys.Key.TheVariants.{Lock, Creation, Spawning, Starts, Joins, Made, Touched, Range, Wakes}
-use Rattle.mr_clocks.specs.declared.rows.Row.{Row}
-use Rattle.mr_clocks.specs.Keys.{asks, has_row}
-use Rattle.mr_clocks.specs.Memos.{AreMemos, IsMemo, IsMemoOf, memo_at}
-use Rattle.mr_clocks.specs.Rows.{AreAllAsked, ArePlaces, HaveKeysOf, IsGrown, row_at}
 use Rattle.mr_clocks.proofs.Noting.{grown_row}
 
 -- a step with whom another one woke

@@ -1,14 +1,8 @@
 -- One step more in the rows.
-use Rattle.std.proofs.Common.{◌≡◌, ◌≢◌, ℕ, ◌+◌, ◌<◌, ◌≤◌, inl, inr, List, [], ◌∷◌, ◌++◌, append_assoc, true, length, get_or, set, slice_index, refl, sym, ◌∙◌, ap, subst, arith}
-use Rattle.std.proofs.lemmas.List.{append-nil, get_or-set_other, get_or-set_same, get_or-take, get_or_append_left, get_or_push, length-set, length_push}
-use native.Mathlib.Decide.{ℕ_discrete, dec_lt}
-use Rattle.mr_event.specs.Footprint.{Footprint}
-use Rattle.mr_event.specs.Order.{step_at, thread_at}
-use Rattle.mr_clocks.specs.declared.keys.Key.{Key}
-use Rattle.mr_clocks.specs.declared.rows.Row.{Row}
-use Rattle.mr_clocks.specs.declared.rows.Link.{Link}
-use Rattle.mr_clocks.specs.Keys.{has_row}
-use Rattle.mr_clocks.specs.Rows.{AreLinks, AreLonger, ArePartly, ArePlaces, AreRows, HaveKeysOf, IsBelow, IsGrown, IsHeld, IsIn, IsKept, IsNoted, IsOfRow, IsRow, IsRowFor, link_at, no_link, no_row, row_at, step_of}
+use Rattle.mr_clocks.proofs.Common.{◌≡◌, ◌≢◌, ℕ, ◌+◌, ◌<◌, ◌≤◌, inl, inr, List, [], ◌∷◌, ◌++◌, true, length, get_or, set, slice_index, refl, sym, ◌∙◌, ap, subst, arith, get_or-set_other, get_or-set_same, get_or-take, get_or_append_left, get_or_push, length-set, length_push, ℕ_discrete, dec_lt, Footprint, step_at, thread_at, Key, Row, Link, has_row, AreLinks, AreLonger, ArePartly, ArePlaces, AreRows, HaveKeysOf, IsBelow, IsGrown, IsIn, IsKept, IsOfRow, IsRow, IsRowFor, link_at, no_link, no_row, row_at, step_of}
+use Rattle.std.proofs.Common.{append_assoc}
+use Rattle.std.proofs.lemmas.List.{append-nil}
+use Rattle.mr_clocks.specs.Rows.{IsHeld, IsNoted}
 use Rattle.mr_clocks.proofs.Chains.{in_behind, in_cases, in_here, in_less, in_low, in_more, in_none}
 
 -- the rows before a step is noted

@@ -1,13 +1,6 @@
 -- The clock of a step, made from those of the steps that an edge leads from.
-use Rattle.std.proofs.Common.{◌≡◌, ◌≢◌, ℕ, suc, ◌<◌, ◌≤◌, ◌-◌, Bool, false, List, [], slice_index, sym, ◌∙◌, ap, subst, inl, inr, ◌⊎◌, arith}
-use native.Mathlib.Decide.{ℕ_discrete, dec_lt}
-use Rattle.std.specs.Prelude.{Option, Some, None, MatchOption}
-use Rattle.mr_event.specs.Footprint.{Footprint}
-use Rattle.mr_event.specs.Order.{thread_at, Edge, HappensBefore}
-use Rattle.mr_event.specs.Order.Edge.{in_thread}
-use Rattle.mr_event.specs.Order.HappensBefore.{edge, chain}
-use Rattle.mr_event.proofs.Ordered.{last_edge, Edge-before, HappensBefore-before}
-use Rattle.mr_clocks.specs.Clocks.{IsUnder, IsClockOf, IsMade, IsPart, AreUnder, AreClocks, AreLatest, Follows, clock_at}
+use Rattle.mr_clocks.proofs.Common.{◌≡◌, ◌≢◌, ℕ, suc, ◌<◌, ◌≤◌, ◌-◌, Bool, false, List, [], slice_index, sym, ◌∙◌, ap, subst, inl, inr, ◌⊎◌, arith, ℕ_discrete, dec_lt, Option, Some, None, MatchOption, Footprint, thread_at, Edge, HappensBefore, in_thread, edge, chain, Edge-before, HappensBefore-before, IsUnder, IsClockOf, IsMade, IsPart, AreUnder, AreClocks, AreLatest, Follows, clock_at}
+use Rattle.mr_event.proofs.Ordered.{last_edge}
 
 -- the first step of its thread knows nothing
 pub part_of_none : (run : List Footprint) (clock : List ℕ) (j : ℕ) → ((t : ℕ) → slice_index clock t ≡ 0) → ((p : ℕ) → p < j → thread_at run p ≢ thread_at run j) → IsPart run clock j

@@ -1,25 +1,7 @@
 -- The rows that a step asks tell its edges and its greatest partner.
-use Rattle.std.proofs.Common.{◌≡◌, ◌≢◌, ℕ, ◌+◌, ◌-◌, ◌<◌, ◌≤◌, inl, inr, List, true, false, length, take, slice_index, refl, sym, ◌∙◌, ap, subst, arith}
-use native.Mathlib.Decide.{ℕ_discrete}
-use Rattle.std.specs.List.{list_any}
-use Rattle.std.proofs.lemmas.Bool.{and_parts, both_ways, cases_Bool, false≢true}
-use Rattle.std.proofs.lemmas.List.{get_or-take}
-use Rattle.mr_base.specs.Accesses.{conflicts, races, some_race}
-use Rattle.mr_event.specs.Footprint.{Footprint}
-use Rattle.mr_event.specs.Footprints.{depends}
-use Rattle.mr_event.specs.Order.{no_step, step_at, thread_at, Edge, HappensBefore, HasNoPartner, RacePair}
-use Rattle.mr_event.specs.Order.Edge.{in_thread, woken}
-use Rattle.mr_event.specs.Order.HappensBefore.{edge, chain}
-use Rattle.mr_event.proofs.Ordered.{Edge-before, any_weaker}
-use Rattle.mr_clocks.specs.declared.keys.Key.{Key}
-use Rattle.mr_clocks.specs.declared.keys.Key.TheVariants.{Lock, Creation, Spawning, Starts, Joins, Made, Touched, Range, Wakes}
-use Rattle.mr_clocks.specs.declared.rows.Row.{Row}
-use Rattle.mr_clocks.specs.declared.rows.Link.{Link}
-use Rattle.mr_clocks.specs.Clocks.{AreLatest, AreUnder, IsClockOf, IsPart, IsUnder}
-use Rattle.mr_clocks.specs.Keys.{Counts, asks, has_row, key_races}
-use Rattle.mr_clocks.specs.Tracked.{IsNext}
-use Rattle.mr_clocks.specs.Wakers.{AreSyncsUnder}
-use Rattle.mr_clocks.specs.Rows.{AreAllAsked, ArePlacesKnown, AreRows, IsPlaceBeyond, IsPlaceKnown, IsPlaceSeen, row_at, step_of}
+use Rattle.mr_clocks.proofs.Common.{◌≡◌, ◌≢◌, ℕ, ◌+◌, ◌-◌, ◌<◌, ◌≤◌, inl, inr, List, true, false, length, take, slice_index, refl, sym, ◌∙◌, ap, subst, arith, ℕ_discrete, list_any, and_parts, both_ways, cases_Bool, false≢true, get_or-take, conflicts, races, some_race, Footprint, depends, no_step, step_at, thread_at, Edge, HappensBefore, HasNoPartner, RacePair, in_thread, woken, edge, chain, Edge-before, any_weaker, Key, Lock, Creation, Spawning, Starts, Joins, Made, Touched, Range, Wakes, Row, Link, AreLatest, AreUnder, IsClockOf, IsPart, IsUnder, asks, has_row, IsNext, AreSyncsUnder, AreAllAsked, AreRows, IsPlaceBeyond, IsPlaceKnown, IsPlaceSeen, row_at, step_of}
+use Rattle.mr_clocks.specs.Keys.{Counts, key_races}
+use Rattle.mr_clocks.specs.Rows.{ArePlacesKnown}
 use Rattle.mr_clocks.proofs.Chains.{in_here, in_low, in_most}
 use Rattle.mr_clocks.proofs.Edges.{edge_back, sync_of}
 use Rattle.mr_clocks.proofs.KeyLaws.{depends_row, race_shares}

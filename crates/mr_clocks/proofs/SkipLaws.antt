@@ -1,21 +1,9 @@
 -- Walks over rows, and the skips that they leave.
-use Rattle.std.proofs.Common.{◌≡◌, ℕ, ◌+◌, ◌<◌, ◌≤◌, ◌⊎◌, inl, inr, List, [], ◌∷◌, ◌++◌, Bool, true, length, length-append, get_or, set, take, slice_index, refl, sym, ◌∙◌, ap, subst, arith}
-use Rattle.std.specs.List.{Contains, list_any}
-use Rattle.std.proofs.lemmas.Bool.{both_ways}
-use Rattle.std.proofs.lemmas.List.{get_or-take, get_or_append_left, get_or_push, get_or_read}
-use Rattle.std.proofs.lemmas.List.Elements.{Contains-append_left, Contains-push, Contains-push_cases}
-use Rattle.std.proofs.lemmas.List.Folds.{Any-from_list_any, list_any_at}
-use Rattle.mr_base.specs.declared.access.Access.{Access}
-use Rattle.mr_base.specs.Accesses.{races, some_race}
-use Rattle.mr_event.specs.Footprint.{Footprint}
-use Rattle.mr_event.specs.Order.{no_step, step_at, Edge}
-use Rattle.mr_event.proofs.Ordered.{any_weaker}
-use Rattle.mr_clocks.specs.declared.rows.Row.{Row}
-use Rattle.mr_clocks.specs.declared.rows.Link.{Link}
-use Rattle.mr_clocks.specs.Clocks.{IsUnder}
+use Rattle.mr_clocks.proofs.Common.{◌≡◌, ℕ, ◌+◌, ◌<◌, ◌≤◌, ◌⊎◌, inl, inr, List, [], ◌∷◌, ◌++◌, Bool, true, length, length-append, get_or, set, take, slice_index, refl, sym, ◌∙◌, ap, subst, arith, Contains, list_any, both_ways, get_or-take, get_or_append_left, get_or_push, get_or_read, Contains-append_left, Any-from_list_any, list_any_at, Access, races, some_race, Footprint, no_step, step_at, Edge, any_weaker, Row, Link, IsUnder, AreLinks, AreLonger, IsIn, IsOfRow, IsRow, link_at, step_of, AreAmong, AreSkips, IsServing, IsSkip, IsWalking, skip_at}
+use Rattle.std.proofs.lemmas.List.Elements.{Contains-push, Contains-push_cases}
 use Rattle.mr_clocks.specs.Keys.{IsWakes}
-use Rattle.mr_clocks.specs.Rows.{AreLinks, AreLonger, IsIn, IsOfRow, IsRow, IsRowSeen, link_at, step_of}
-use Rattle.mr_clocks.specs.Skips.{AreAmong, AreSkips, IsServing, IsSkip, IsWalking, RacesBy, no_skip, skip_at}
+use Rattle.mr_clocks.specs.Rows.{IsRowSeen}
+use Rattle.mr_clocks.specs.Skips.{RacesBy, no_skip}
 use Rattle.mr_clocks.proofs.Each.{each_pushed, each_set}
 use Rattle.mr_clocks.proofs.Chains.{in_behind, in_cases, in_here, in_less, in_low, in_more, in_most, in_none, link_left}
 

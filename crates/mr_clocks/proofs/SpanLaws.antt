@@ -1,22 +1,13 @@
 -- Spans in order: how they are made, which accesses touch them, and which places of a shelf they reach.
-use Rattle.std.proofs.Common.{◌≡◌, ℕ, ◌+◌, ◌-◌, ◌<◌, ◌≤◌, ◌^◌, ◌⊎◌, inl, inr, List, [], ◌∷◌, ◌++◌, Bool, true, false, length, length-append, get_or, max, refl, sym, ◌∙◌, ap, subst, arith}
-use Rattle.std.specs.Prelude.{cond, ◌||◌, nat_lt}
+use Rattle.mr_clocks.proofs.Common.{◌≡◌, ℕ, ◌+◌, ◌-◌, ◌<◌, ◌≤◌, ◌^◌, ◌⊎◌, inl, inr, List, [], ◌∷◌, ◌++◌, Bool, true, false, length, length-append, get_or, max, refl, sym, ◌∙◌, ap, subst, arith, cond, ◌||◌, nat_lt, Contains, list_any, and_parts, get_or_append_left, get_or_default, get_or_push, Any-from_list_any, ℕ_discrete, Access, conflicts, overlaps, Span, AreSpansFor, IsReached, span_at}
 use Rattle.std.specs.Ordering.{is_lt, nat_cmp, ord_max}
 use Rattle.std.specs.declared.cmp.Ordering.{Ordering}
 use Rattle.std.specs.declared.cmp.Ordering.TheVariants.{Less, Equal, Greater}
 use Rattle.std.proofs.lemmas.Cmp.{ranked}
-use Rattle.std.specs.List.{Contains, list_any}
 use Rattle.std.specs.List.Sorted.{IsNonDecreasingBy}
-use Rattle.std.proofs.lemmas.Bool.{and_parts}
-use Rattle.std.proofs.lemmas.List.{get_or_append_left, get_or_default, get_or_push}
-use Rattle.std.proofs.lemmas.List.Folds.{Any-from_list_any}
 use Rattle.std.proofs.lemmas.List.Sorted.{IsNonDecreasingBy-push, IsNonDecreasingBy-short}
-use native.Mathlib.Decide.{ℕ_discrete}
-use Rattle.mr_base.specs.declared.access.Access.{Access}
-use Rattle.mr_base.specs.Accesses.{conflicts, overlaps}
 use Rattle.mr_base.proofs.Comparisons.{below_or, lt_from}
-use Rattle.mr_clocks.specs.declared.spans.Span.{Span}
-use Rattle.mr_clocks.specs.Spans.{AreRising, AreSpansFor, IsReached, IsSpanned, last_of, no_span, span_at}
+use Rattle.mr_clocks.specs.Spans.{AreRising, IsSpanned, last_of, no_span}
 
 -- ---- what it says that two accesses overlap, and that they conflict
 

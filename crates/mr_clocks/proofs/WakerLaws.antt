@@ -1,22 +1,9 @@
 -- The links of the steps that woke or created each thread.
-use Rattle.std.proofs.Common.{◌≡◌, ◌≢◌, ℕ, suc, ◌+◌, ◌-◌, ◌<◌, ◌≤◌, ◌⊎◌, inl, inr, List, [], ◌∷◌, ◌++◌, true, length, length-take, set, take, slice_index, refl, sym, ◌∙◌, ap, subst, arith}
-use Rattle.std.specs.Prelude.{not, ◌==◌}
-use Rattle.std.specs.List.{list_any}
-use Rattle.std.proofs.lemmas.Bool.{and_parts, both_ways, eq-eqb, eqb-true, false≢true, not_from_true, or_cases, or_left, or_right}
-use Rattle.std.proofs.lemmas.List.{ext_get_or, get_or-set_other, get_or-set_same, get_or-take}
-use Rattle.std.proofs.lemmas.List.Folds.{list_any_at}
-use native.Mathlib.Decide.{ℕ_discrete}
-use Rattle.mr_base.specs.declared.thread.Event.{Event}
-use Rattle.mr_base.specs.declared.thread.Event.TheVariants.{Quiet, CreateLock, Acquire, Release, Spawn, Join}
-use Rattle.mr_event.specs.Footprint.{Footprint}
-use Rattle.mr_event.specs.Footprints.{spawns, wakes}
-use Rattle.mr_event.specs.Order.{no_step, step_at, thread_at, Sync}
-use Rattle.mr_clocks.specs.declared.rows.Link.{Link}
-use Rattle.mr_clocks.specs.Clocks.{IsUnder}
-use Rattle.mr_clocks.specs.Keys.{spawns_some}
-use Rattle.mr_clocks.specs.Rows.{AreLinks, IsIn, IsKept, link_at, step_of}
-use Rattle.mr_clocks.specs.Tracked.{IsNext}
-use Rattle.mr_clocks.specs.Wakers.{AreExtended, AreSyncsUnder, AreWakers, IsUnwoken, wakes_nobody}
+use Rattle.mr_clocks.proofs.Common.{◌≡◌, ◌≢◌, ℕ, suc, ◌+◌, ◌-◌, ◌<◌, ◌≤◌, ◌⊎◌, inl, inr, List, [], ◌∷◌, ◌++◌, true, length, length-take, set, take, slice_index, refl, sym, ◌∙◌, ap, subst, arith, ◌==◌, list_any, and_parts, both_ways, eq-eqb, eqb-true, false≢true, or_cases, or_left, or_right, get_or-set_other, get_or-set_same, get_or-take, list_any_at, ℕ_discrete, Event, Quiet, CreateLock, Acquire, Release, Spawn, Join, Footprint, spawns, wakes, no_step, step_at, thread_at, Sync, Link, IsUnder, spawns_some, AreLinks, IsIn, IsKept, link_at, step_of, IsNext, AreExtended, AreSyncsUnder, AreWakers, wakes_nobody}
+use Rattle.std.specs.Prelude.{not}
+use Rattle.std.proofs.lemmas.Bool.{not_from_true}
+use Rattle.std.proofs.lemmas.List.{ext_get_or}
+use Rattle.mr_clocks.specs.Wakers.{IsUnwoken}
 use Rattle.mr_clocks.proofs.Chains.{in_cases, in_low, in_most}
 use Rattle.mr_clocks.proofs.Edges.{sync_next}
 use Rattle.mr_clocks.proofs.Linking.{chained_more, kept_behind, kept_last, kept_longer, link_new, link_old, more_links}

@@ -1,14 +1,7 @@
 -- What lies before the fronts, and under the clocks of some steps joined.
-use Rattle.std.proofs.Common.{◌≡◌, ℕ, ◌<◌, ◌≤◌, ◌+◌, ◌↔◌, List, [], ◌∷◌, ◌++◌, Bool, false, IsTrue, length, get_or, slice_index, sym, ◌∙◌, ap, subst, inl, inr, arith}
-use native.Mathlib.Decide.{ℕ_discrete, dec_lt}
-use Rattle.std.proofs.lemmas.List.{get_or_append_left, get_or_default, get_or_past, get_or_push}
-use Rattle.mr_event.specs.Footprint.{Footprint}
-use Rattle.mr_event.specs.Order.{thread_at}
-use Rattle.mr_event.specs.Order.Edge.{in_thread}
-use Rattle.mr_event.specs.Order.HappensBefore.{edge}
-use Rattle.mr_event.proofs.Ordered.{HappensBefore-before}
-use Rattle.mr_clocks.specs.Clocks.{IsClockOf, IsUnder, Follows}
-use Rattle.mr_clocks.specs.Whole.{AreFronts, IsNeededBy, IsReady, IsUpTo, front_of}
+use Rattle.mr_clocks.proofs.Common.{◌≡◌, ℕ, ◌<◌, ◌≤◌, ◌+◌, ◌↔◌, List, [], ◌∷◌, ◌++◌, Bool, false, IsTrue, length, get_or, slice_index, sym, ◌∙◌, ap, subst, inl, inr, arith, ℕ_discrete, dec_lt, get_or_append_left, get_or_default, get_or_push, Footprint, thread_at, in_thread, edge, HappensBefore-before, IsClockOf, IsUnder, Follows, IsNeededBy, IsUpTo, front_of}
+use Rattle.std.proofs.lemmas.List.{get_or_past}
+use Rattle.mr_clocks.specs.Whole.{AreFronts, IsReady}
 use Rattle.mr_clocks.proofs.Parts.{under_cases, under_old, under_other, under_own}
 
 -- ---- fronts

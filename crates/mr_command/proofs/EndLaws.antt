@@ -1,19 +1,12 @@
 -- How a command that was answered ends.
-use Rattle.std.proofs.Common.{◌≡◌, ℕ, ◌+◌, ap, ◌∙◌, sym, arith, List, ◌++◌, length, ◌⊎◌, inl, inr, refl}
+use Rattle.mr_command.proofs.Common.{◌≡◌, ℕ, ap, ◌∙◌, sym, arith, List, ◌++◌, length, ◌⊎◌, inl, inr, refl, Some, Option, Ok, Err, Contents, Written, Refusal, Command, OfNumber, OfProgram, OfSchedule, OfTrace, Run, refused, Tells, answer_of, IsLeft, IsRefusedOrLeft, IsWritten, Ends, IsPossible, same_refusal}
+use Rattle.std.proofs.Common.{◌+◌}
 use Rattle.std.proofs.lemmas.List.{length-append}
-use Rattle.std.specs.Prelude.{Some, Option, Ok, Err}
-use Rattle.mr_io.specs.Files.{Contents}
-use Rattle.mr_input.specs.declared.written.Written.{Written}
-use Rattle.mr_input.specs.declared.refusal.Refusal.{Refusal}
-use Rattle.mr_input.specs.declared.refusal.Refusal.TheVariants as refusal
-use Rattle.mr_command.specs.Command.{Command, OfNumber, OfProgram, OfSchedule, OfTrace, Run}
-use Rattle.mr_input.specs.Answer.{refused, Tells, seen}
-use Rattle.mr_command.specs.Answer.{answer_of}
+use Rattle.mr_input.specs.Answer.{seen}
 use Rattle.mr_command.specs.Answering.{IsAnswered}
-use Rattle.mr_input.specs.Writing.{IsLeft, IsRefusedOrLeft, IsWritten}
-use Rattle.mr_command.specs.Outcome.{Ends, IsPossible}
 use Rattle.mr_input.specs.Refusals.{refusal_text}
-use Rattle.mr_input.proofs.RefusedLaws.{left_or_written, refusal_told, same_refusal}
+use Rattle.mr_input.proofs.RefusedLaws.{left_or_written, refusal_told}
+use Rattle.mr_input.specs.declared.refusal.Refusal.TheVariants as refusal
 
 module _ (files : Contents) (files_rose out_rose : Type 0) (old new : Option (List ℕ)) (status : ℕ) where
   pub written_ends : (command : Command) (a : Written) → IsAnswered files command files_rose (Ok a) → IsWritten (seen a) out_rose old new status

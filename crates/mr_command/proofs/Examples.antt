@@ -1,8 +1,7 @@
 -- Words, computed.
-use Rattle.std.proofs.Common.{◌≡◌, [], ◌∷◌, Some, None, codes, refl}
-use Rattle.mr_answer.specs.declared.formats.Format.TheVariants as Format
+use Rattle.mr_command.proofs.Common.{◌≡◌, [], ◌∷◌, Some, None, codes, refl, OfProgram, OfSchedule, OfTrace, Run, command_of}
 use Rattle.mr_command.specs.declared.command.Saying.TheVariants.{Canonical}
-use Rattle.mr_command.specs.Command.{OfProgram, OfSchedule, OfTrace, Run, command_of}
+use Rattle.mr_answer.specs.declared.formats.Format.TheVariants as Format
 
 the_form : command_of (codes "run" ∷ codes "P" ∷ codes "S" ∷ []) ≡ Some (Run Format.Text (codes "P") (codes "S"))
 the_form = refl

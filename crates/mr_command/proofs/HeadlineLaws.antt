@@ -1,21 +1,12 @@
 -- What is told of a run, of a text or of a trace follows from how a call ends.
-use Rattle.std.proofs.Common.{◌≡◌, ℕ, ◌≤◌, ap, ◌∙◌, refl, subst, arith, List, ◌⊎◌, inl, inr}
-use Rattle.std.specs.Prelude.{Some, None, Option, Ok, Err}
-use Rattle.mr_ast.specs.declared.program.Program.{Program}
-use Rattle.mr_io.specs.Files.{Contents}
-use Rattle.mr_lex.specs.declared.token.TextFault.{TextFault}
+use Rattle.mr_command.proofs.Common.{◌≡◌, ℕ, ◌≤◌, ap, ◌∙◌, refl, subst, arith, List, ◌⊎◌, inl, inr, Some, None, Option, Ok, Err, Program, Contents, TextFault, Schedule, Version, predicted, PlacedFault, run_of, steps_of, FormFault, WellFormed, faults_of, Footprint, Answer, form_or, refused, told, holding, program_in, schedule_in, denoted, spelled, IsLeft, IsWritten, written_status, Format, big_answer, big_schedule, ran, unless_broken, listed, reported, at_most_one, Saying, Command, NamesProgram, OfNumber, OfProgram, OfSchedule, OfTrace, Run, races_in, read_report, said, said_answer, shown, report_under, run_answer, upgrade_answer, upgraded, answer_of, Ends, EndsOverTexts, IsPossible, AsksOf, NamesRun, IsTold, Upgrades}
 use Rattle.mr_grammar.specs.Denotes.{Denotes}
 use Rattle.mr_grammar.specs.Faults.{FirstFault}
 use Rattle.mr_grammar.proofs.ParsingLaws.{denotes_parsed, fault_parsed}
-use Rattle.mr_sched.specs.declared.schedule.Schedule.{Schedule}
-use Rattle.mr_sched.specs.declared.version.Version.{Version}
 use Rattle.mr_sched.proofs.TextLaws.{as_read, schedule_again, schedule_fails_at}
-use Rattle.mr_event.specs.Predicted.{predicted}
-use Rattle.mr_run.specs.StartRuns.{Legal, PlacedFault, run_of, steps_of}
+use Rattle.mr_run.specs.StartRuns.{Legal}
 use Rattle.mr_run.proofs.StartRunLaws.{no_schedule_fault}
 use Rattle.mr_run.proofs.StartStartSound.{sound_run}
-use Rattle.mr_typing.specs.declared.fault.FormFault.{FormFault}
-use Rattle.mr_typing.specs.Walk.{WellFormed, faults_of}
 use Rattle.mr_gen.specs.Generated.{generated}
 use Rattle.mr_gen.proofs.GeneratedLaws.{well_formed}
 use Rattle.mr_answer.specs.AutoDrawing.{drawn_schedule}
@@ -26,26 +17,18 @@ use Rattle.mr_run.proofs.WitnessShortWitness.{witness_of_run}
 use Rattle.mr_run.specs.WitnessShuffled.{shuffled}
 use Rattle.mr_run.proofs.WitnessCopied.{shuffled_same}
 use Rattle.mr_run.proofs.WitnessDrawn.{shuffled_rearranged}
-use Rattle.mr_event.specs.Footprint.{Footprint}
 use Rattle.mr_event.proofs.Tests.{predicted_is}
-use Rattle.mr_trace.specs.Reading.{races_in as races_read, races_of, trace_of}
 use Rattle.mr_trace.proofs.TraceLaws.{fault_so, trace_again}
-use Rattle.mr_input.specs.declared.refusal.Refusal.TheVariants as refusal
-use Rattle.mr_input.specs.Answer.{Answer, form_answer, form_or, refused, told}
-use Rattle.mr_input.specs.Inputs.{holding, program_in, schedule_in, denoted, spelled, text_refusal}
-use Rattle.mr_input.specs.Writing.{IsLeft, IsWritten}
+use Rattle.mr_input.specs.Answer.{form_answer}
+use Rattle.mr_input.specs.Inputs.{text_refusal}
 use Rattle.mr_input.proofs.AnswerLaws.{first_told}
-use Rattle.mr_input.proofs.RefusedLaws.{written_status}
-use Rattle.mr_answer.specs.declared.formats.Format.{Format}
-use Rattle.mr_answer.specs.declared.formats.Format.TheVariants as format
-use Rattle.mr_answer.specs.Answers.{big_answer, big_schedule, ran, legal_run, unless_broken, line_at, listed, reported}
-use Rattle.mr_answer.proofs.StatusLaws.{at_most_one}
-use Rattle.mr_command.specs.declared.command.Saying.{Saying}
-use Rattle.mr_command.specs.Command.{Command, NamesProgram, OfNumber, OfProgram, OfSchedule, OfTrace, Run}
-use Rattle.mr_command.specs.Answer.{races_in, read_report, said, said_answer, shown, report_under, run_answer, upgrade_answer, upgraded, answer_of}
-use Rattle.mr_command.specs.Outcome.{Ends, EndsOverTexts, RanOut, IsPossible, IsUnread}
-use Rattle.mr_command.specs.Named.{AsksOf, IsSoundUnder, NamesRun, NamesBroken, NamesBrokenSchedule, NamesFault, NamesScheduleFault, KeepsResult, ReadsSchedule, RunsProgram, ReportsRun, IsTold, ShowsFirstRace, Upgrades}
+use Rattle.mr_answer.specs.Answers.{legal_run, line_at}
+use Rattle.mr_command.specs.Outcome.{RanOut, IsUnread}
+use Rattle.mr_command.specs.Named.{IsSoundUnder, NamesBroken, NamesBrokenSchedule, NamesFault, NamesScheduleFault, KeepsResult, ReadsSchedule, RunsProgram, ReportsRun, ShowsFirstRace}
 use Rattle.mr_command.specs.Traces.{NamesTraceFault, Replays}
+use Rattle.mr_trace.specs.Reading.{races_in as races_read, races_of, trace_of}
+use Rattle.mr_input.specs.declared.refusal.Refusal.TheVariants as refusal
+use Rattle.mr_answer.specs.declared.formats.Format.TheVariants as format
 
 -- ---- what a file holds
 

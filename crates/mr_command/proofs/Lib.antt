@@ -1,3 +1,4 @@
+mod Common
 pub mod EndLaws
 pub mod Examples
 pub mod HeadlineLaws

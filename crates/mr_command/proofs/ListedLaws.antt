@@ -1,10 +1,8 @@
 -- Bytes of a trace that are too many.
-use Rattle.std.proofs.Common.{◌≡◌, ℕ, ◌<◌, ◌^◌, ap, ◌∙◌, refl, List, length}
-use Rattle.std.specs.Prelude.{Some, Option, Err}
+use Rattle.mr_command.proofs.Common.{◌≡◌, ℕ, ◌<◌, ◌^◌, ap, ◌∙◌, refl, List, length, Some, Option, Err, races_in, shown}
 use Rattle.mr_trace.specs.Reading.{races_of, trace_of}
 use Rattle.mr_input.specs.declared.refusal.Refusal.TheVariants.{Trace}
 use Rattle.mr_input.proofs.InputLaws.{less, longer}
-use Rattle.mr_command.specs.Answer.{races_in, shown}
 
 long_races : (bytes : List ℕ) → 2 ^ 28 < length bytes → races_of bytes ≡ Err (record { at = 0; code = 74 })
 unfolding races_of trace_of

@@ -1,24 +1,12 @@
 -- The headline follows from what is told of a run in each format.
-use Rattle.std.proofs.Common.{◌≡◌, ℕ, ap, ◌∙◌, refl, subst, List, [], ◌∷◌}
-use Rattle.std.specs.Prelude.{Some, Option, codes}
-use Rattle.mr_ast.specs.declared.program.Program.{Program}
-use Rattle.mr_io.specs.Files.{Contents}
+use Rattle.mr_command.proofs.Common.{◌≡◌, ℕ, ap, ◌∙◌, refl, subst, List, [], ◌∷◌, Some, Option, codes, Program, Contents, Schedule, Version, Footprint, predicted, run_of, steps_of, Answer, ran, reported, Run, command_of, IsTold, NamesRun, Ends}
 use Rattle.mr_grammar.proofs.Shape.ShapedLaws.{denoted_is_shaped}
-use Rattle.mr_sched.specs.declared.schedule.Schedule.{Schedule}
-use Rattle.mr_sched.specs.declared.version.Version.{Version}
 use Rattle.mr_event.specs.declared.footprint.Pair.{Pair}
-use Rattle.mr_event.specs.Footprint.{Footprint}
-use Rattle.mr_event.specs.Predicted.{predicted}
-use Rattle.mr_run.specs.StartRuns.{run_of, steps_of}
 use Rattle.mr_run.specs.declared.witnesses.Selection.TheVariants.{Kept}
 use Rattle.mr_run.specs.Witnesses.{witness_for}
-use Rattle.mr_input.specs.Answer.{Answer}
 use Rattle.mr_answer.specs.declared.formats.Format.TheVariants.{Text}
-use Rattle.mr_answer.specs.Answers.{ran, reported, told_by}
-use Rattle.mr_command.specs.Command.{Run, command_of}
+use Rattle.mr_answer.specs.Answers.{told_by}
 use Rattle.mr_command.specs.Headline.{IsOfMachine, Names, report_in, witness_of}
-use Rattle.mr_command.specs.Named.{IsTold, NamesRun}
-use Rattle.mr_command.specs.Outcome.{Ends}
 use Rattle.mr_command.proofs.HeadlineLaws.{reports_run}
 
 -- these words ask for a run, with its report as text

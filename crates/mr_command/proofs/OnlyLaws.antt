@@ -1,41 +1,19 @@
 -- Where 0 or 1 is answered, the files hold what is defined for it.
-use Rattle.std.proofs.Common.{◌≡◌, ℕ, ◌<◌, ◌≤◌, ◌^◌, ap, ◌∙◌, sym, subst, arith, List, [], ◌∷◌, length, inl, inr, refl}
-use Rattle.std.specs.Prelude.{Some, None, Option, Result, Ok, Err}
+use Rattle.mr_command.proofs.Common.{◌≡◌, ℕ, ◌<◌, ◌≤◌, ◌^◌, ap, ◌∙◌, sym, subst, arith, List, [], ◌∷◌, length, inl, inr, refl, Some, None, Option, Result, Ok, Err, Program, Contents, TextFault, Schedule, Read, Version, PlacedFault, schedule_fault, FormFault, WellFormed, faults_of, Footprint, predicted, Format, Saying, Command, OfProgram, OfSchedule, OfTrace, Run, Answer, form_or, told, denoted, program_in, schedule_in, spelled, Ran, listed, ran, reported, unless_broken, answer_of, races_in, read_report, report_under, run_answer, said, said_answer, shown, upgrade_answer, upgraded, Ends, AsksOf, NamesRun, Upgrades, HasBytes, Shown, races_least}
 use Rattle.std.specs.Io.KnownBytes.{append_known}
-use Rattle.mr_ast.specs.declared.program.Program.{Program}
-use Rattle.mr_io.specs.Files.{Contents}
-use Rattle.mr_lex.specs.declared.token.TextFault.{TextFault}
 use Rattle.mr_grammar.specs.Parsing.{parsed}
 use Rattle.mr_grammar.proofs.ParsingLaws.{parsed_denotes}
 use Rattle.mr_grammar.proofs.Shape.ShapedLaws.{denoted_is_shaped}
-use Rattle.mr_sched.specs.declared.schedule.Schedule.{Schedule}
-use Rattle.mr_sched.specs.declared.version.Read.{Read}
-use Rattle.mr_sched.specs.declared.version.Version.{Version}
 use Rattle.mr_sched.specs.Reading.{Fault, schedule_of}
 use Rattle.mr_sched.proofs.TextLaws.{schedule_failed, schedule_read}
-use Rattle.mr_run.specs.StartRuns.{PlacedFault, schedule_fault}
 use Rattle.mr_run.proofs.StartRunLaws.{legal_schedule}
-use Rattle.mr_typing.specs.declared.fault.FormFault.{FormFault}
-use Rattle.mr_typing.specs.Walk.{WellFormed, faults_of}
-use Rattle.mr_event.specs.Footprint.{Footprint}
-use Rattle.mr_event.specs.Predicted.{predicted}
 use Rattle.mr_base.specs.declared.trace_rule.TheConstants.{TOO_LONG}
 use Rattle.mr_trace.specs.Faults.{too_long}
-use Rattle.mr_trace.specs.Reading.{Place, races_in as races_read, trace_of}
 use Rattle.mr_trace.proofs.TraceLaws.{fault_is, trace_is}
-use Rattle.mr_answer.specs.declared.formats.Format.{Format}
-use Rattle.mr_command.specs.declared.command.Saying.{Saying}
-use Rattle.mr_command.specs.Command.{Command, OfProgram, OfSchedule, OfTrace, Run}
-use Rattle.mr_input.specs.Answer.{Answer, form_or, told}
-use Rattle.mr_input.specs.Inputs.{denoted, program_in, schedule_in, spelled}
-use Rattle.mr_answer.specs.Answers.{Ran, listed, ran, reported, unless_broken}
-use Rattle.mr_command.specs.Answer.{answer_of, races_in, read_report, report_under, run_answer, said, said_answer, shown, upgrade_answer, upgraded}
 use Rattle.mr_input.specs.Writing.{IsWhole}
-use Rattle.mr_command.specs.Outcome.{Ends}
-use Rattle.mr_command.specs.Named.{AsksOf, HasScheduleFault, NamesRun, ReportsLegalRun, Upgrades, WritesSaid, WritesUpgraded}
-use Rattle.mr_command.specs.Showing.{HasBytes, Shown}
+use Rattle.mr_command.specs.Named.{HasScheduleFault, ReportsLegalRun, WritesSaid, WritesUpgraded}
 use Rattle.mr_command.specs.Traces.{HasTraceFault, Replays, WritesRaces}
-use Rattle.mr_answer.proofs.StatusLaws.{races_least}
+use Rattle.mr_trace.specs.Reading.{Place, races_in as races_read, trace_of}
 use Rattle.mr_command.proofs.HeadlineLaws.{named_answer, races_from, ran_out, replayed_answer, said_answered, unread_status, upgraded_answer}
 use Rattle.mr_command.proofs.ListedLaws.{long_trace}
 use Rattle.mr_command.proofs.StatusLaws.{only_offline}

@@ -1,16 +1,7 @@
 -- What is promised of a call, from how it ends.
-use Rattle.std.proofs.Common.{ℕ, List}
-use Rattle.std.specs.Prelude.{Option}
-use Rattle.mr_io.specs.Files.{Contents}
-use Rattle.mr_event.specs.Predicted.{predicted}
-use Rattle.mr_answer.specs.Answers.{listed, ran, reported}
-use Rattle.mr_answer.proofs.StatusLaws.{races_least, reported_least}
-use Rattle.mr_command.specs.Answer.{said, upgraded}
-use Rattle.mr_command.specs.Command.{Command}
+use Rattle.mr_command.proofs.Common.{ℕ, List, Option, Contents, predicted, listed, ran, reported, races_least, reported_least, said, upgraded, Command, Ends, Shown}
 use Rattle.mr_command.specs.declared.command.Saying.TheVariants.{Canonical, Drawn}
-use Rattle.mr_command.specs.Outcome.{Ends}
 use Rattle.mr_command.specs.Promises.{PromisesOfRuns, PromisesOfTexts, PromisesOfTraces}
-use Rattle.mr_command.specs.Showing.{Shown}
 use Rattle.mr_command.proofs.HeadlineLaws as told
 use Rattle.mr_command.proofs.OnlyLaws as only
 use Rattle.mr_command.proofs.StatusLaws.{said_least}

@@ -1,32 +1,12 @@
 -- What the status of an answer tells: 6 of a file that isn't there, and 9 of bytes that are no trace.
-use Rattle.std.proofs.Common.{◌≡◌, ℕ, ◌≤◌, arith, List, [], ◌∷◌, ◌⊎◌, inl, inr, refl}
-use Rattle.std.specs.Prelude.{Some, None, Option, Result, Ok, Err}
-use Rattle.mr_ast.specs.declared.program.Program.{Program}
-use Rattle.mr_io.specs.Files.{Contents}
-use Rattle.mr_lex.specs.declared.token.TextFault.{TextFault}
+use Rattle.mr_command.proofs.Common.{◌≡◌, ℕ, ◌≤◌, arith, List, [], ◌∷◌, ◌⊎◌, inl, inr, refl, Some, None, Option, Result, Ok, Err, Program, Contents, TextFault, Schedule, Read, Version, predicted, PlacedFault, schedule_fault, FormFault, faults_of, Format, Saying, Command, OfNumber, OfProgram, OfSchedule, OfTrace, Run, Answer, form_or, told, denoted, program_in, schedule_in, spelled, Ran, big_answer, big_schedule, listed, ran, reported, unless_broken, answer_of, races_in, read_report, report_under, run_answer, said, said_answer, shown, upgrade_answer, LacksFile, at_most_one, races_least, reported_least}
 use Rattle.mr_grammar.specs.Parsing.{parsed}
-use Rattle.mr_sched.specs.declared.schedule.Schedule.{Schedule}
-use Rattle.mr_sched.specs.declared.version.Read.{Read}
-use Rattle.mr_sched.specs.declared.version.Version.{Version}
 use Rattle.mr_sched.specs.Reading.{Fault, schedule_of}
 use Rattle.mr_event.specs.declared.footprint.Pair.{Pair}
-use Rattle.mr_event.specs.Predicted.{predicted}
-use Rattle.mr_run.specs.StartRuns.{PlacedFault, schedule_fault}
-use Rattle.mr_typing.specs.declared.fault.FormFault.{FormFault}
-use Rattle.mr_typing.specs.Walk.{faults_of}
 use Rattle.mr_answer.specs.AutoDrawing.{drawn_schedule}
 use Rattle.mr_gen.specs.Generated.{generated}
 use Rattle.mr_trace.specs.Reading.{Place, races_of}
-use Rattle.mr_answer.specs.declared.formats.Format.{Format}
-use Rattle.mr_command.specs.declared.command.Saying.{Saying}
 use Rattle.mr_command.specs.declared.command.Saying.TheVariants as saying
-use Rattle.mr_command.specs.Command.{Command, OfNumber, OfProgram, OfSchedule, OfTrace, Run}
-use Rattle.mr_input.specs.Answer.{Answer, form_or, told}
-use Rattle.mr_input.specs.Inputs.{denoted, program_in, schedule_in, spelled}
-use Rattle.mr_answer.specs.Answers.{Ran, big_answer, big_schedule, listed, ran, reported, unless_broken}
-use Rattle.mr_command.specs.Answer.{answer_of, races_in, read_report, report_under, run_answer, said, said_answer, shown, upgrade_answer}
-use Rattle.mr_command.specs.Named.{LacksFile}
-use Rattle.mr_answer.proofs.StatusLaws.{at_most_one, races_least, reported_least}
 
 -- THE STATUS of what is said of a program that breaks no rule
 pub said_least : (what : Saying) (p : Program) → (said what p).status ≤ 1

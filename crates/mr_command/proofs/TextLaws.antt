@@ -1,19 +1,9 @@
 -- How a command is answered over texts that its files have, whatever they tell.
-use Rattle.std.proofs.Common.{◌≡◌, ℕ, ap, ◌∙◌, sym, subst, List, [], inl, inr, codes}
-use Rattle.std.specs.Prelude.{Some, Option, Result, Ok, Err}
-use Rattle.mr_ast.specs.declared.program.Program.{Program}
-use Rattle.mr_sched.specs.declared.version.Read.{Read}
-use Rattle.mr_typing.specs.Walk.{WellFormed}
-use Rattle.mr_input.specs.declared.written.Written.{Written}
-use Rattle.mr_answer.specs.declared.formats.Format.{Format}
-use Rattle.mr_input.specs.declared.refusal.Refusal.{Refusal}
-use Rattle.mr_input.specs.declared.refusal.Refusal.TheVariants as refusal
-use Rattle.mr_input.specs.Answer.{TellsOrUnread, form_or, told, Tells}
-use Rattle.mr_input.specs.Inputs.{program_in, schedule_in, holding, IsRead}
-use Rattle.mr_input.proofs.RefusedLaws.{refused_over, same_refusal}
-use Rattle.mr_command.specs.declared.command.Saying.{Saying}
-use Rattle.mr_command.specs.Answer.{report_under, run_answer, said_answer, upgrade_answer}
+use Rattle.mr_command.proofs.Common.{◌≡◌, ℕ, ap, ◌∙◌, sym, subst, List, [], inl, inr, codes, Some, Option, Result, Ok, Err, Program, Read, WellFormed, Written, Format, Refusal, form_or, told, Tells, program_in, schedule_in, holding, IsRead, same_refusal, Saying, report_under, run_answer, said_answer, upgrade_answer}
+use Rattle.mr_input.specs.Answer.{TellsOrUnread}
+use Rattle.mr_input.proofs.RefusedLaws.{refused_over}
 use Rattle.mr_command.specs.Answering.{IsFormOrReport, IsReported, IsSaid, IsUpgraded}
+use Rattle.mr_input.specs.declared.refusal.Refusal.TheVariants as refusal
 
 -- a checked program is answered by the report
 pub checked_reported : (format : Format) (p q : Program) (file : Option (List ℕ)) (rose : Type 0) (result : Result Written Refusal) → (q ≡ p) × WellFormed p

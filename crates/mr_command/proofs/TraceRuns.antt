@@ -1,28 +1,11 @@
 -- What an answer shows of runs that are traced and of files whose races are listed, by the result and by the status.
-use Rattle.std.proofs.Common.{◌≡◌, ℕ, ◌<◌, ◌≤◌, ◌^◌, ap, subst, sym, ◌∙◌, arith, List, [], ◌++◌, length, ◌⊎◌, inl, inr, refl}
-use Rattle.std.specs.Prelude.{Some, Option, Result, Ok, Err}
-use Rattle.mr_ast.specs.declared.program.Program.{Program}
-use Rattle.mr_io.specs.Files.{Contents}
-use Rattle.mr_sched.specs.declared.schedule.Schedule.{Schedule}
-use Rattle.mr_sched.specs.declared.version.Read.{Read}
-use Rattle.mr_sched.specs.declared.version.Version.{Version}
+use Rattle.mr_command.proofs.Common.{◌≡◌, ℕ, ◌<◌, ◌≤◌, ◌^◌, ap, subst, sym, ◌∙◌, arith, List, [], ◌++◌, length, ◌⊎◌, inl, inr, refl, Some, Option, Result, Ok, Err, Program, Contents, Schedule, Read, Version, steps_of, WellFormed, faults_of, Written, Refusal, Answer, refused, schedule_in, spelled, IsRead, IsLeft, IsRefusedOrLeft, IsWritten, was_read, Format, Command, OfNumber, OfProgram, OfSchedule, OfTrace, Run, NamesRun, HasBytes, Shown}
 use Rattle.mr_sched.proofs.TextLaws.{schedule_again}
-use Rattle.mr_run.specs.StartRuns.{steps_of}
 use Rattle.mr_trace.specs.Spelling.{AreBytes, Traces, spelling}
-use Rattle.mr_typing.specs.Walk.{WellFormed, faults_of}
-use Rattle.mr_input.specs.declared.written.Written.{Written}
-use Rattle.mr_input.specs.declared.refusal.Refusal.{Refusal}
-use Rattle.mr_input.specs.declared.refusal.Refusal.TheVariants as refusal
-use Rattle.mr_input.specs.Answer.{Answer, refused}
-use Rattle.mr_input.specs.Inputs.{schedule_in, spelled, IsRead}
-use Rattle.mr_input.specs.Writing.{IsLeft, IsRefusedOrLeft, IsWritten}
-use Rattle.mr_input.proofs.InputLaws.{was_read}
-use Rattle.mr_answer.specs.declared.formats.Format.{Format}
-use Rattle.mr_answer.specs.declared.formats.Format.TheVariants as format
 use Rattle.mr_answer.specs.Spelled.{IsSpelled}
-use Rattle.mr_command.specs.Command.{Command, OfNumber, OfProgram, OfSchedule, OfTrace, Run}
-use Rattle.mr_command.specs.Named.{NamesRun}
-use Rattle.mr_command.specs.Showing.{HasBytes, IsOfBytes, IsSpelledBy, Shown, Shows, ShowsBy}
+use Rattle.mr_command.specs.Showing.{IsOfBytes, IsSpelledBy, Shows, ShowsBy}
+use Rattle.mr_input.specs.declared.refusal.Refusal.TheVariants as refusal
+use Rattle.mr_answer.specs.declared.formats.Format.TheVariants as format
 use Rattle.mr_command.proofs.HeadlineLaws.{denoted_in}
 
 -- ---- by the result

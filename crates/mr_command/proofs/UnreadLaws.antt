@@ -1,12 +1,6 @@
 -- Why a file was not read.
-use Rattle.std.proofs.Common.{◌≡◌, ℕ, ap, ◌∙◌, sym, arith, List, ◌⊎◌, inl, inr, refl}
-use Rattle.std.specs.Prelude.{Some, None, Option}
-use Rattle.mr_io.specs.Files.{Contents}
-use Rattle.mr_input.specs.Answer.{Answer}
-use Rattle.mr_command.specs.Command.{Command}
-use Rattle.mr_command.specs.Outcome.{Ends, IsPossible}
-use Rattle.mr_command.specs.Named.{IsUnreadBecause, LacksFile}
-use Rattle.mr_input.proofs.RefusedLaws.{written_status}
+use Rattle.mr_command.proofs.Common.{◌≡◌, ℕ, ap, ◌∙◌, sym, arith, List, ◌⊎◌, inl, inr, refl, Some, None, Option, Contents, Answer, Command, Ends, IsPossible, LacksFile, written_status}
+use Rattle.mr_command.specs.Named.{IsUnreadBecause}
 use Rattle.mr_command.proofs.HeadlineLaws.{ran_out}
 use Rattle.mr_command.proofs.StatusLaws.{lacks}
 

@@ -1,37 +1,17 @@
 -- The public calls: what stands in a function of a well-formed program is sound there, and no call comes to a state without a rule.
-use Rattle.std.proofs.Common.{◌≡◌, ℕ, List, [], Option, Err, true, All, length, false, sym, ap, ap₂, subst, ◌∙◌}
+use Rattle.mr_eval.proofs.Common.{◌≡◌, ℕ, List, [], Option, Err, true, length, false, sym, ap, ap₂, subst, ◌∙◌, Place, Value, Local, Ty, Pointer, Reached, TypeOk, Memory, Broken, Outcome, Refused, Went, align_of, encoding_of, Bytes, has_shape, Val, broken_in_place, broken_in_value, Halt, Gives, ShapedAs, env_surround, placed, read_typed, valued, Surround, Seen, Comes, SoundPlace, SoundValue, Stands, any_result, loading}
+use Rattle.std.proofs.Common.{All}
 use Rattle.std.proofs.lemmas.Option.{get_or_from_slice_get, slice_get_within}
 use Rattle.mr_ast.specs.Shaped.{named_in}
-use Rattle.mr_ast.specs.declared.expr.Place.{Place}
-use Rattle.mr_ast.specs.declared.expr.Value.{Value}
 use Rattle.mr_ast.specs.declared.program.Function.{Function}
-use Rattle.mr_ast.specs.declared.program.Local.{Local}
-use Rattle.mr_ast.specs.declared.types.Ty.{Ty}
-use Rattle.mr_base.specs.declared.byte.Pointer.{Pointer}
-use Rattle.mr_base.specs.declared.reached.Reached.{Reached}
-use Rattle.mr_layout.specs.TypeOk.{TypeOk}
-use Rattle.mr_mem.specs.Memory.{Memory}
-use Rattle.mr_base.specs.Script.{Broken, Outcome, Refused, Went}
-use Rattle.mr_layout.specs.Sizes.{align_of}
-use Rattle.mr_value.specs.Encode.{encoding_of}
-use Rattle.mr_value.specs.Numbers.{Bytes}
-use Rattle.mr_value.specs.Shape.{has_shape}
-use Rattle.mr_value.specs.declared.val.Val.{Val}
-use Rattle.mr_typing.specs.Broken.{broken_in_place, broken_in_value, sizes_of}
+use Rattle.mr_typing.specs.Broken.{sizes_of}
 use Rattle.mr_typing.specs.Unbroken.{UnbrokenFunction}
 use Rattle.mr_typing.specs.Walk.{WellFormed}
 use Rattle.mr_typing.proofs.UnbrokenLaws.{well_formed_keeps}
 use Rattle.mr_eval.specs.declared.env.Env.{Env}
-use Rattle.mr_eval.specs.declared.halt.Halt.{Halt}
-use Rattle.mr_eval.specs.declared.halt.Halt.TheVariants as halt
-use Rattle.mr_eval.specs.Answers.{Gives}
-use Rattle.mr_eval.specs.Environment.{IsEnvOf, IsRuled, PlaceIn, ShapedAs, ValueIn, env_surround, locals_of}
-use Rattle.mr_eval.specs.Evaluated.{placed, read_typed, valued}
-use Rattle.mr_eval.specs.Evaluation.{Surround}
-use Rattle.mr_eval.specs.Reads.{Seen}
-use Rattle.mr_eval.specs.Sound.{Comes, SoundPlace, SoundValue, Stands, any_result}
+use Rattle.mr_eval.specs.Environment.{IsEnvOf, IsRuled, PlaceIn, ValueIn, locals_of}
 use Rattle.mr_eval.specs.Stores.{stored_typed, storing}
-use Rattle.mr_eval.specs.Typed.{loading}
+use Rattle.mr_eval.specs.declared.halt.Halt.TheVariants as halt
 use Rattle.mr_eval.proofs.SafeLaws.{loading_safe}
 use Rattle.mr_eval.proofs.SafeRuns.{place_comes, safe_comes, value_comes}
 use Rattle.mr_eval.proofs.ExprSafe.{value_safe}

@@ -1,39 +1,16 @@
 -- The search for a discriminant in memory is never ill-formed, and what it finds fits the enum's integers.
-use Rattle.std.proofs.Common.{◌≡◌, ℕ, List, [], ◌∷◌, Some, Bool, true, false, map, refl, sym, ap, subst, ◌∙◌}
-use Rattle.std.specs.Prelude.{not, ◌&&◌, ◌||◌, ◌==◌, nat_le, if◌then◌else◌}
-use Rattle.std.proofs.lemmas.Option.{same_Some}
-use Rattle.std.proofs.lemmas.Bool.{and_parts}
-use Rattle.mr_base.specs.Stops.{plainly}
-use Rattle.mr_ast.specs.declared.types.IntType.{IntType}
-use Rattle.mr_ast.specs.declared.types.Num.{Num}
-use Rattle.mr_ast.specs.declared.types.Tree.{Tree, roll-Tree}
-use Rattle.mr_ast.specs.declared.types.Tree.TheVariants as tree
+use Rattle.mr_eval.proofs.Common.{◌≡◌, ℕ, List, [], ◌∷◌, Some, Bool, true, false, map, refl, sym, ap, subst, ◌∙◌, not, ◌&&◌, ◌||◌, ◌==◌, nat_le, if◌then◌else◌, same_Some, and_parts, plainly, IntType, Num, Tree, Ty, out-Ty, roll-Ty, Ty-F, Variant, Pointer, InvalidDiscriminant, same_num, is_fitting, align_of, size_of, TypeOk, enum_ok, bits_of_number, number_of_bits, has_shape, Done, Undefined, ◌>>=◌, discriminant_in, discriminant_type, type_made, behind, case_search, numbered, or_undefined, searched, discriminant_at, discriminant_layer, IsSafe, any_result}
+use Rattle.mr_ast.specs.declared.types.Tree.{roll-Tree}
 use Rattle.mr_ast.specs.declared.types.Tree.TheOpen.{Tree-F}
 use Rattle.mr_ast.specs.declared.types.Tree.TheFolds.{fold-roll-Tree, map-Tree}
-use Rattle.mr_ast.specs.declared.types.Ty.{Ty, out-Ty, roll-Ty}
-use Rattle.mr_ast.specs.declared.types.Ty.TheVariants as ty
-use Rattle.mr_ast.specs.declared.types.Ty.TheOpen.{Ty-F}
-use Rattle.mr_ast.specs.declared.types.Variant.{Variant}
-use Rattle.mr_base.specs.declared.byte.Pointer.{Pointer}
-use Rattle.mr_base.specs.declared.reason.Reason.TheVariants.{InvalidDiscriminant}
-use Rattle.mr_layout.specs.EnumRules.{are_tree_cases, are_variants, is_case, is_number_of, is_tree, same_num}
-use Rattle.mr_ast.specs.Integers.{is_fitting}
-use Rattle.mr_layout.specs.Sizes.{align_of, size_of}
-use Rattle.mr_layout.specs.TypeOk.{TypeOk}
+use Rattle.mr_layout.specs.EnumRules.{are_tree_cases, are_variants, is_case, is_number_of, is_tree}
 use Rattle.mr_layout.proofs.TreeOk.{branch_ok, leaf_ok, same_num_equal}
-use Rattle.mr_layout.proofs.WellFormed.{enum_ok}
-use Rattle.mr_value.specs.declared.val.Val.TheVariants as val
-use Rattle.mr_value.specs.Discriminants.{bits_of_number, number_of_bits}
 use Rattle.mr_value.specs.Numbers.{number_of}
-use Rattle.mr_value.specs.Shape.{has_shape}
 use Rattle.mr_ast.proofs.TreeInduction.{AllCases, TreeCases, tree_induction}
-use Rattle.mr_base.specs.Script.{Done, Undefined, ◌>>=◌}
-use Rattle.mr_typing.specs.Types.{discriminant_in, discriminant_type}
-use Rattle.mr_ast.proofs.TypeInduction.{type_made}
-use Rattle.mr_eval.specs.Moves.{behind}
-use Rattle.mr_eval.specs.Typed.{Search, case_search, numbered, or_undefined, search_step, searched}
-use Rattle.mr_eval.specs.Evaluation.{discriminant_at, discriminant_layer}
-use Rattle.mr_eval.specs.Sound.{IsSafe, any_result}
+use Rattle.mr_eval.specs.Typed.{Search, search_step}
+use Rattle.mr_ast.specs.declared.types.Tree.TheVariants as tree
+use Rattle.mr_ast.specs.declared.types.Ty.TheVariants as ty
+use Rattle.mr_value.specs.declared.val.Val.TheVariants as val
 use Rattle.mr_eval.proofs.SafeLaws.{safe_option, safe_then}
 use Rattle.mr_eval.proofs.ShapeOf.{int_shape}
 

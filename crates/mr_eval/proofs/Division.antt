@@ -1,16 +1,8 @@
 -- The quotient of two signed numbers, and divisions that are undefined.
-use Rattle.std.proofs.Common.{◌≡◌, ℕ, zero, suc, ◌-◌, ◌/◌, ◌^◌, ◌<◌, ◌≤◌, Bool, true, false, cond, ltb, refl, sym, ◌∙◌, arith, Ok, Err}
-use Rattle.std.specs.Prelude.{ℤ, pos, negsuc, neg_ℤ, FitsSigned, unsigned_abs, int_div, ◌&&◌}
+use Rattle.mr_eval.proofs.Common.{◌≡◌, ℕ, zero, suc, ◌-◌, ◌^◌, ◌<◌, ◌≤◌, Bool, true, false, cond, ltb, refl, sym, ◌∙◌, arith, Ok, Err, ℤ, pos, negsuc, neg_ℤ, FitsSigned, unsigned_abs, int_div, ◌&&◌, int_eq, ints, Reason, ZeroDivisor, DivOverflow, IntType, bits_of, least_of, bits_for, if_quotient_defined}
+use Rattle.std.proofs.Common.{◌/◌}
 use Rattle.std.specs.Int.{cast_signed, cast_unsigned, w128}
-use Rattle.std.specs.Ordering.{int_eq}
-use Rattle.std.proofs.lemmas.Int.{ints}
 use Rattle.std.proofs.Math.Nat.{div-le_self}
-use Rattle.mr_base.specs.declared.reason.Reason.{Reason}
-use Rattle.mr_base.specs.declared.reason.Reason.TheVariants.{ZeroDivisor, DivOverflow}
-use Rattle.mr_ast.specs.declared.types.IntType.{IntType}
-use Rattle.mr_ast.specs.Integers.{bits_of, least_of}
-use Rattle.mr_eval.specs.Numbers.{bits_for}
-use Rattle.mr_eval.specs.Arith.{if_quotient_defined}
 use Rattle.mr_eval.proofs.Residues.{IsCongruent}
 use Rattle.mr_eval.proofs.IntegerLaws.{bits_for-congruent}
 use Rattle.mr_eval.proofs.Widths.{multiple_128}

@@ -1,39 +1,9 @@
 -- What the evaluation of each construct comes to, over a memory.
-use Rattle.std.proofs.Common.{◌≡◌, ℕ, ◌+◌, ◌<◌, length, drop, get_or, List, [], ◌∷◌, Option, None, Some, pos, true, false, refl, ap, ◌∙◌}
-use Rattle.std.proofs.lemmas.List.{drop_more}
-use Rattle.std.specs.Prelude.{Bool, is_some, if◌then◌else◌, slice_get}
-use Rattle.mr_base.specs.Stops.{plainly}
-use Rattle.mr_ast.specs.declared.types.IntType.{IntType}
-use Rattle.mr_ast.specs.declared.types.Num.{Num}
-use Rattle.mr_ast.specs.declared.types.Ty.{Ty, out-Ty}
-use Rattle.mr_ast.specs.declared.types.Ty.TheOpen.{Ty-F}
-use Rattle.mr_ast.specs.declared.types.Variant.{Variant}
-use Rattle.mr_ast.specs.declared.expr.BinaryOp.{BinaryOp}
-use Rattle.mr_ast.specs.declared.expr.UnaryOp.{UnaryOp}
-use Rattle.mr_ast.specs.declared.expr.Place.{Place}
-use Rattle.mr_ast.specs.declared.expr.Value.{Value}
+use Rattle.mr_eval.proofs.Common.{◌≡◌, ℕ, ◌+◌, ◌<◌, length, drop, get_or, List, [], ◌∷◌, Option, None, Some, pos, true, false, refl, ap, ◌∙◌, drop_more, Bool, is_some, if◌then◌else◌, slice_get, plainly, IntType, Num, Ty, out-Ty, Ty-F, Variant, BinaryOp, UnaryOp, Place, Value, FnName, GlobalName, LocalName, Pointer, TransmuteInvalid, Memory, ◌>>=◌, Broken, Done, IllFormed, Outcome, Went, on, run, on_same, run_bind, Val, bits_of_number, encoding_of, has_shape, chained, type_of_place, type_of_value, variant_type, ReadScript, Seen, reading, behind, moved, meant, searched, binary_of, cast_value, index_of_value, or_ill_formed, pointer_of_value, unary_of, Surround, as_variant, bare, discriminant_at, discriminant_layer, element_at, elements_in, loaded, offset_in, place_script, stored, transmuted, union_of, value_script, values_script, each_valued, found_number, meant_by, placed, read_typed, transmuted_to, valued}
+use Rattle.mr_eval.specs.Evaluated.{at_variant, disc_at, disc_layer, in_array, in_field, load_at}
 use Rattle.mr_ast.specs.declared.expr.Place.TheVariants as place
 use Rattle.mr_ast.specs.declared.expr.Value.TheVariants as value
-use Rattle.mr_ast.specs.declared.program.FnName.{FnName}
-use Rattle.mr_ast.specs.declared.program.GlobalName.{GlobalName}
-use Rattle.mr_ast.specs.declared.program.LocalName.{LocalName}
-use Rattle.mr_base.specs.declared.byte.Pointer.{Pointer}
-use Rattle.mr_base.specs.declared.reason.Reason.TheVariants.{TransmuteInvalid}
-use Rattle.mr_mem.specs.Memory.{Memory}
-use Rattle.mr_base.specs.Script.{◌>>=◌, Broken, Done, IllFormed, Outcome, Went, on, run}
-use Rattle.mr_base.proofs.ScriptRuns.{on_same, run_bind}
-use Rattle.mr_value.specs.declared.val.Val.{Val}
 use Rattle.mr_value.specs.declared.val.Val.TheVariants as val
-use Rattle.mr_value.specs.Discriminants.{bits_of_number}
-use Rattle.mr_value.specs.Encode.{encoding_of}
-use Rattle.mr_value.specs.Shape.{has_shape}
-use Rattle.mr_typing.specs.Types.{chained, type_of_place, type_of_value, variant_type}
-use Rattle.mr_eval.specs.Reads.{ReadScript, Seen, reading}
-use Rattle.mr_eval.specs.Moves.{behind, moved}
-use Rattle.mr_eval.specs.Typed.{meant, searched}
-use Rattle.mr_eval.specs.Operators.{binary_of, cast_value, index_of_value, or_ill_formed, pointer_of_value, unary_of}
-use Rattle.mr_eval.specs.Evaluation.{Surround, as_variant, bare, discriminant_at, discriminant_layer, element_at, elements_in, loaded, offset_in, place_script, stored, transmuted, union_of, value_script, values_script}
-use Rattle.mr_eval.specs.Evaluated.{at_variant, disc_at, disc_layer, each_valued, found_number, in_array, in_field, load_at, meant_by, placed, read_typed, transmuted_to, valued}
 use Rattle.mr_eval.proofs.EvaluationLaws.{script_addr_of, script_binary, script_cast, script_deref, script_disc, script_false, script_field, script_fn, script_global, script_index, script_int, script_load, script_local, script_raw, script_transmute, script_true, script_tuple, script_unary, script_union, script_variant, script_variant_place}
 
 module _ (m : Memory) (s : Surround) (old : Seen) where

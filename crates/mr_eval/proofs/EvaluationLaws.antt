@@ -1,30 +1,11 @@
 -- The equations of `place_script` and `value_script`, one for each kind of place and value.
-use Rattle.std.proofs.Common.{◌≡◌, ℕ, true, false, List, [], ◌∷◌, map, refl, sym, ap, ◌∙◌}
-use Rattle.std.specs.Prelude.{pos, slice_get}
-use Rattle.mr_ast.specs.declared.types.IntType.{IntType}
-use Rattle.mr_ast.specs.declared.types.Num.{Num}
-use Rattle.mr_ast.specs.declared.types.Ty.{Ty}
-use Rattle.mr_ast.specs.declared.program.FnName.{FnName}
-use Rattle.mr_ast.specs.declared.program.GlobalName.{GlobalName}
-use Rattle.mr_ast.specs.declared.program.LocalName.{LocalName}
-use Rattle.mr_ast.specs.declared.expr.UnaryOp.{UnaryOp}
-use Rattle.mr_ast.specs.declared.expr.BinaryOp.{BinaryOp}
-use Rattle.mr_ast.specs.declared.expr.Place.{Place, roll-Place}
-use Rattle.mr_ast.specs.declared.expr.Value.{Value, roll-Value}
-use Rattle.mr_ast.specs.declared.expr.Place.TheVariants as place
-use Rattle.mr_ast.specs.declared.expr.Value.TheVariants as value
+use Rattle.mr_eval.proofs.Common.{◌≡◌, ℕ, true, false, List, [], ◌∷◌, map, refl, sym, ap, ◌∙◌, pos, slice_get, IntType, Num, Ty, FnName, GlobalName, LocalName, UnaryOp, BinaryOp, Place, roll-Place, Value, roll-Value, Pointer, Val, bits_of_number, Done, ◌>>=◌, type_of_place, type_of_value, ReadScript, behind, moved, binary_of, cast_value, index_of_value, or_ill_formed, pointer_of_value, unary_of, Surround, as_variant, bare, discriminant_at, element_at, elements_in, loaded, offset_in, place_script, stored, transmuted, union_of, value_script, values_script}
 use Rattle.mr_ast.specs.declared.expr.Place.TheOpen.{Place-F, Value-F}
 use Rattle.mr_ast.specs.declared.expr.Place.TheFolds.{map-Place, map-Value, para-roll-Place, para-roll-Value}
-use Rattle.mr_base.specs.declared.byte.Pointer.{Pointer}
-use Rattle.mr_value.specs.declared.val.Val.{Val}
+use Rattle.mr_eval.specs.Evaluation.{in_order, place_step, value_step}
+use Rattle.mr_ast.specs.declared.expr.Place.TheVariants as place
+use Rattle.mr_ast.specs.declared.expr.Value.TheVariants as value
 use Rattle.mr_value.specs.declared.val.Val.TheVariants as val
-use Rattle.mr_value.specs.Discriminants.{bits_of_number}
-use Rattle.mr_base.specs.Script.{Done, ◌>>=◌}
-use Rattle.mr_typing.specs.Types.{type_of_place, type_of_value}
-use Rattle.mr_eval.specs.Reads.{ReadScript}
-use Rattle.mr_eval.specs.Moves.{behind, moved}
-use Rattle.mr_eval.specs.Operators.{binary_of, cast_value, index_of_value, or_ill_formed, pointer_of_value, unary_of}
-use Rattle.mr_eval.specs.Evaluation.{Surround, as_variant, bare, discriminant_at, element_at, elements_in, in_order, loaded, offset_in, place_script, place_step, stored, transmuted, union_of, value_script, value_step, values_script}
 
 abbrev Located : Type 0
 Located = Place × ReadScript Pointer

@@ -1,28 +1,10 @@
 -- Evaluations for which there is no rule, computed.
-use Rattle.std.proofs.Common.{◌≡◌, ℕ, Bool, false, [], ◌∷◌, Option, Some, ap, ◌∙◌}
-use Rattle.std.specs.Prelude.{is_some, if◌then◌else◌}
-use Rattle.mr_base.specs.Stops.{plainly}
-use Rattle.mr_ast.specs.declared.types.IntType.TheVariants.{U8, U16}
-use Rattle.mr_ast.specs.declared.types.Num.{Num}
-use Rattle.mr_ast.specs.declared.types.Ty.{Ty}
-use Rattle.mr_ast.specs.declared.types.Ty.TheOpen.{Ty-F}
+use Rattle.mr_eval.proofs.Common.{◌≡◌, ℕ, Bool, false, [], ◌∷◌, Option, Some, ap, ◌∙◌, is_some, if◌then◌else◌, plainly, U8, U16, Num, Ty, Ty-F, Variant, Place, Pointer, TransmuteInvalid, Done, IllFormed, ◌>>=◌, Val, encoding_of, has_int, type_of_place, type_of_value, variant_in, Surround, as_variant, bare, place_script, transmuted, value_script, ReadScript, meant}
+use Rattle.mr_typing.proofs.TypeLaws.{type_of_int, type_of_local}
 use Rattle.mr_ast.specs.declared.types.Ty.TheVariants as ty
-use Rattle.mr_ast.specs.declared.types.Variant.{Variant}
-use Rattle.mr_ast.specs.declared.expr.Place.{Place}
 use Rattle.mr_ast.specs.declared.expr.Place.TheVariants as place
 use Rattle.mr_ast.specs.declared.expr.Value.TheVariants as value
-use Rattle.mr_base.specs.declared.byte.Pointer.{Pointer}
-use Rattle.mr_base.specs.declared.reason.Reason.TheVariants.{TransmuteInvalid}
-use Rattle.mr_base.specs.Script.{Done, IllFormed, ◌>>=◌}
-use Rattle.mr_value.specs.declared.val.Val.{Val}
 use Rattle.mr_value.specs.declared.val.Val.TheVariants as val
-use Rattle.mr_value.specs.Encode.{encoding_of}
-use Rattle.mr_value.proofs.ShapeLaws.{has_int}
-use Rattle.mr_typing.specs.Types.{type_of_place, type_of_value, variant_in}
-use Rattle.mr_typing.proofs.TypeLaws.{type_of_int, type_of_local}
-use Rattle.mr_eval.specs.Evaluation.{Surround, as_variant, bare, place_script, transmuted, value_script}
-use Rattle.mr_eval.specs.Reads.{ReadScript}
-use Rattle.mr_eval.specs.Typed.{meant}
 use Rattle.mr_eval.proofs.EvaluationLaws.{script_int, script_local, script_transmute, script_variant_place}
 
 abbrev number : ℕ → Num

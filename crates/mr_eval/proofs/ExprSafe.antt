@@ -1,64 +1,27 @@
 -- The evaluation of an expression that breaks no rule is never ill-formed, and the value has the shape of the expression's type.
-use Rattle.std.proofs.Common.{◌≡◌, ℕ, ◌*◌, ◌^◌, ◌<◌, List, [], ◌∷◌, Option, None, Some, Bool, true, false, length, refl, sym, ap, subst, ◌∙◌, arith}
-use Rattle.std.specs.Prelude.{◌||◌, is_some, nat_lt, pos, if◌then◌else◌}
-use Rattle.std.specs.Option.{option_map}
+use Rattle.mr_eval.proofs.Common.{◌≡◌, ℕ, ◌*◌, ◌^◌, ◌<◌, List, [], ◌∷◌, Option, None, Some, Bool, true, false, length, refl, sym, ap, subst, ◌∙◌, arith, ◌||◌, is_some, nat_lt, pos, if◌then◌else◌, option_map, same_Some, and_parts, plainly, bits_of, IntType, U64, Num, Ty, out-Ty, roll-Ty, Ty-F, Variant, BinaryOp, UnaryOp, Place, Value, FnName, GlobalName, Local, LocalName, Named, is_shaped_place, is_shaped_value, Pointer, TransmuteInvalid, size_of, TypeOk, Val, out-Val, Val-F, bits_of_number, encoding_of, Bytes, has_shape, lt_from, lt_test, eq_from, length-encoding_of, has_bool, has_raw, shape_raw, Done, IllFormed, Undefined, ◌>>=◌, broken_in_place, broken_in_value, is_int, is_raw, chained, discriminant_in, discriminant_type, element_type, field_type, integer_in, integer_of, overflow_type, result_type, type_of_place, type_of_value, variant_type, raw_is, type_made, same_type_equal, behind, moved, meant, binary_of, cast_value, index_of_value, or_ill_formed, pointer_of_value, unary_of, Surround, as_variant, bare, discriminant_at, element_at, elements_in, loaded, offset_in, place_script, stored, transmuted, union_of, value_script, values_script, IsSafe, Stands, any_result}
 use Rattle.std.specs.List.{list_all, flat_map}
-use Rattle.std.proofs.lemmas.Option.{same_Some}
-use Rattle.std.proofs.lemmas.Bool.{and_parts}
-use Rattle.mr_base.specs.Stops.{plainly}
-use Rattle.mr_ast.specs.Integers.{bits_of}
-use Rattle.mr_ast.specs.declared.types.IntType.{IntType}
-use Rattle.mr_ast.specs.declared.types.IntType.TheVariants.{U64}
-use Rattle.mr_ast.specs.declared.types.Num.{Num}
-use Rattle.mr_ast.specs.declared.types.Ty.{Ty, out-Ty, roll-Ty}
-use Rattle.mr_ast.specs.declared.types.Ty.TheVariants as ty
-use Rattle.mr_ast.specs.declared.types.Ty.TheOpen.{Ty-F}
-use Rattle.mr_ast.specs.declared.types.Variant.{Variant}
-use Rattle.mr_ast.specs.declared.expr.BinaryOp.{BinaryOp}
-use Rattle.mr_ast.specs.declared.expr.UnaryOp.{UnaryOp}
-use Rattle.mr_ast.specs.declared.expr.Place.{Place}
-use Rattle.mr_ast.specs.declared.expr.Value.{Value}
-use Rattle.mr_ast.specs.declared.expr.Place.TheVariants as place
-use Rattle.mr_ast.specs.declared.expr.Value.TheVariants as value
-use Rattle.mr_ast.specs.declared.program.FnName.{FnName}
-use Rattle.mr_ast.specs.declared.program.GlobalName.{GlobalName}
-use Rattle.mr_ast.specs.declared.program.Local.{Local}
-use Rattle.mr_ast.specs.declared.program.LocalName.{LocalName}
 use Rattle.mr_ast.specs.ShapedTypes.{fits_u64, is_shaped_num, is_shaped_type}
-use Rattle.mr_ast.specs.ShapedValues.{Named, is_shaped_place, is_shaped_value}
 use Rattle.mr_ast.proofs.ExprInduction.{AllValues, ExprCases, place_induction, value_induction}
 use Rattle.mr_ast.proofs.ShapedLaws.{shaped_addr_of, shaped_binary, shaped_cast, shaped_deref, shaped_disc, shaped_field_place, shaped_fn, shaped_global, shaped_index_place, shaped_load, shaped_local_place, shaped_transmute, shaped_tuple, shaped_unary, shaped_union, shaped_variant, shaped_variant_place}
-use Rattle.mr_base.specs.declared.byte.Pointer.{Pointer}
-use Rattle.mr_base.specs.declared.reason.Reason.TheVariants.{IndexOutOfRange, TransmuteInvalid}
-use Rattle.mr_layout.specs.Sizes.{size_of}
-use Rattle.mr_layout.specs.TypeOk.{TypeOk}
+use Rattle.mr_base.specs.declared.reason.Reason.TheVariants.{IndexOutOfRange}
 use Rattle.mr_layout.proofs.BrokenLaws.{broken_int, broken_bool, broken_raw, broken_fn_ptr}
-use Rattle.mr_value.specs.declared.val.Val.{Val, out-Val}
-use Rattle.mr_value.specs.declared.val.Val.TheOpen.{Val-F}
-use Rattle.mr_value.specs.declared.val.Val.TheVariants as val
-use Rattle.mr_value.specs.Discriminants.{bits_of_number}
-use Rattle.mr_value.specs.Encode.{encoding_of}
-use Rattle.mr_value.specs.Numbers.{Bytes}
-use Rattle.mr_value.specs.Shape.{has_shape}
-use Rattle.mr_base.proofs.Comparisons.{lt_from, lt_test, eq_from}
-use Rattle.mr_value.proofs.EncodeLength.{length-encoding_of}
-use Rattle.mr_value.proofs.ShapeLaws.{has_bool, has_fn_ptr, has_raw, has_ref, shape_fn_ptr, shape_raw, shape_ref}
-use Rattle.mr_base.specs.Script.{Done, IllFormed, Undefined, ◌>>=◌}
-use Rattle.mr_typing.specs.Broken.{Surroundings, broken_in_place, broken_in_value}
-use Rattle.mr_typing.specs.Operands.{is_fn_ptr, is_int, is_pointer, is_raw, is_ref, is_ref_layer}
-use Rattle.mr_typing.specs.Types.{chained, compares, discriminant_in, discriminant_type, element_type, field_type, integer_in, integer_of, overflow_type, result_type, tells_overflow, type_of_place, type_of_value, variant_type}
+use Rattle.mr_value.proofs.ShapeLaws.{has_fn_ptr, has_ref, shape_fn_ptr, shape_ref}
+use Rattle.mr_typing.specs.Broken.{Surroundings}
+use Rattle.mr_typing.specs.Operands.{is_fn_ptr, is_pointer, is_ref, is_ref_layer}
+use Rattle.mr_typing.specs.Types.{compares, tells_overflow}
 use Rattle.mr_typing.proofs.ExprWalk.{Judges, result_there}
-use Rattle.mr_typing.proofs.KindLaws.{fn_ptr_is, raw_is}
+use Rattle.mr_typing.proofs.KindLaws.{fn_ptr_is}
 use Rattle.mr_typing.proofs.NothingLaws.{both_nothing}
-use Rattle.mr_ast.proofs.TypeInduction.{type_made}
-use Rattle.mr_typing.proofs.SameTypeLaws.{same_type_equal}
 use Rattle.mr_typing.proofs.TypeLaws.{type_of_addr_of, type_of_binary, type_of_cast, type_of_deref, type_of_disc, type_of_false, type_of_field, type_of_fn, type_of_global, type_of_index, type_of_int, type_of_load, type_of_local, type_of_raw, type_of_transmute, type_of_true, type_of_tuple, type_of_unary, type_of_union, type_of_variant, type_of_variant_place}
 use Rattle.mr_typing.proofs.TypedLaws.{TypedPlace, typed_addr_of, typed_binary, typed_cast, typed_deref, typed_disc, typed_field, typed_index, typed_int, typed_load, typed_transmute, typed_tuple, typed_unary, typed_union, typed_variant, typed_variant_place}
-use Rattle.mr_eval.specs.Moves.{behind, moved}
-use Rattle.mr_eval.specs.Typed.{meant}
-use Rattle.mr_eval.specs.Operators.{binary_of, cast_value, index_in, index_of_value, or_ill_formed, pointer_in, pointer_of_value, unary_of}
-use Rattle.mr_eval.specs.Evaluation.{Surround, as_variant, bare, discriminant_at, element_at, elements_in, loaded, offset_in, place_script, stored, transmuted, union_of, value_script, values_script}
-use Rattle.mr_eval.specs.Sound.{IsSafe, Stands, any_result}
+use Rattle.mr_eval.specs.Operators.{index_in, pointer_in}
+use Rattle.mr_eval.specs.Shapes.{HaveShapes}
+use Rattle.mr_base.proofs.Lists.{item_there, all_at}
+use Rattle.mr_ast.specs.declared.types.Ty.TheVariants as ty
+use Rattle.mr_ast.specs.declared.expr.Place.TheVariants as place
+use Rattle.mr_ast.specs.declared.expr.Value.TheVariants as value
+use Rattle.mr_value.specs.declared.val.Val.TheVariants as val
 use Rattle.mr_eval.proofs.DiscSafe.{discriminant_safe}
 use Rattle.mr_eval.proofs.EvaluationLaws.{script_addr_of, script_binary, script_cast, script_deref, script_disc, script_false, script_field, script_fn, script_global, script_index, script_int, script_load, script_local, script_raw, script_transmute, script_true, script_tuple, script_unary, script_union, script_variant, script_variant_place}
 use Rattle.mr_eval.proofs.OperatorsSafe.{Shaped, binary_safe, cast_safe, int_layer, unary_safe}
@@ -66,8 +29,6 @@ use Rattle.mr_eval.proofs.OverflowTypes.{overflow_ok}
 use Rattle.mr_eval.proofs.PartTypes.{element_ok, field_ok, variant_ok}
 use Rattle.mr_eval.proofs.SafeLaws.{loading_safe, meant_safe, moved_safe, safe_found, safe_if, safe_then}
 use Rattle.mr_eval.proofs.ShapeOf.{int_shape, parts_shape, union_shape, variant_shape}
-use Rattle.mr_eval.specs.Shapes.{HaveShapes}
-use Rattle.mr_base.proofs.Lists.{item_there, all_at}
 
 -- ---- pointers in values
 

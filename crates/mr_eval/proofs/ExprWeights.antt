@@ -1,16 +1,9 @@
 -- How much expressions weigh: the number of their nodes, by which their evaluation ends.
-use Rattle.std.proofs.Common.{◌≡◌, ℕ, zero, suc, ◌+◌, ◌<◌, List, [], ◌∷◌, map, length, get_or, arith, refl, sym, ap, ◌∙◌}
-use Rattle.mr_ast.specs.declared.types.IntType.{IntType}
-use Rattle.mr_ast.specs.declared.types.Num.{Num}
-use Rattle.mr_ast.specs.declared.types.Ty.{Ty}
-use Rattle.mr_ast.specs.declared.expr.BinaryOp.{BinaryOp}
-use Rattle.mr_ast.specs.declared.expr.UnaryOp.{UnaryOp}
-use Rattle.mr_ast.specs.declared.expr.Place.{Place, roll-Place}
-use Rattle.mr_ast.specs.declared.expr.Value.{Value, roll-Value}
-use Rattle.mr_ast.specs.declared.expr.Place.TheVariants as place
-use Rattle.mr_ast.specs.declared.expr.Value.TheVariants as value
+use Rattle.mr_eval.proofs.Common.{◌≡◌, ℕ, zero, suc, ◌+◌, ◌<◌, List, [], ◌∷◌, map, length, get_or, arith, refl, sym, ap, ◌∙◌, IntType, Num, Ty, BinaryOp, UnaryOp, Place, roll-Place, Value, roll-Value}
 use Rattle.mr_ast.specs.declared.expr.Place.TheOpen.{Place-F, Value-F}
 use Rattle.mr_ast.specs.declared.expr.Place.TheFolds.{fold-Place, fold-Value, fold-roll-Place, fold-roll-Value, map-Place, map-Value}
+use Rattle.mr_ast.specs.declared.expr.Place.TheVariants as place
+use Rattle.mr_ast.specs.declared.expr.Value.TheVariants as value
 
 -- the weights of values in a row, and one more for each
 abbrev pub row_sum : List ℕ → ℕ

@@ -1,9 +1,6 @@
 -- Notes that were only added to.
-use Rattle.std.proofs.Common.{◌≡◌, List, [], ◌++◌, refl, sym, ap, ap₂, ◌∙◌, append-nil, append_assoc}
+use Rattle.mr_eval.proofs.Common.{◌≡◌, List, [], ◌++◌, refl, sym, ap, ap₂, ◌∙◌, append-nil, append_assoc, AllocId, Extends, Seen, seeing}
 use Rattle.mr_base.specs.declared.access.Access.{Access}
-use Rattle.mr_base.specs.declared.byte.AllocId.{AllocId}
-use Rattle.mr_eval.specs.Answers.{Extends}
-use Rattle.mr_eval.specs.Reads.{Seen, seeing}
 
 abbrev both : List Access → List AllocId → Seen
 both accesses touched = record { accesses = accesses; touched = touched }

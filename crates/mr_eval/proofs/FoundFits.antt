@@ -1,20 +1,6 @@
 -- The number that an enum's tree finds in memory is one of the enum's integers.
-use Rattle.std.proofs.Common.{◌≡◌, ℕ, List, true, subst}
-use Rattle.mr_ast.specs.declared.types.IntType.{IntType}
-use Rattle.mr_ast.specs.declared.types.Num.{Num}
-use Rattle.mr_ast.specs.declared.types.Tree.{Tree}
+use Rattle.mr_eval.proofs.Common.{◌≡◌, ℕ, List, true, subst, IntType, Num, Tree, Variant, Pointer, is_fitting, TypeOk, enum_ok, Memory, Outcome, Went, found_number, Seen, Comes, searched}
 use Rattle.mr_ast.specs.declared.types.Ty.TheVariants as ty
-use Rattle.mr_ast.specs.declared.types.Variant.{Variant}
-use Rattle.mr_base.specs.declared.byte.Pointer.{Pointer}
-use Rattle.mr_ast.specs.Integers.{is_fitting}
-use Rattle.mr_layout.specs.TypeOk.{TypeOk}
-use Rattle.mr_layout.proofs.WellFormed.{enum_ok}
-use Rattle.mr_mem.specs.Memory.{Memory}
-use Rattle.mr_base.specs.Script.{Outcome, Went}
-use Rattle.mr_eval.specs.Evaluated.{found_number}
-use Rattle.mr_eval.specs.Reads.{Seen}
-use Rattle.mr_eval.specs.Sound.{Comes}
-use Rattle.mr_eval.specs.Typed.{searched}
 use Rattle.mr_eval.proofs.DiscSafe.{search_safe}
 use Rattle.mr_eval.proofs.SafeRuns.{safe_comes}
 

@@ -1,17 +1,9 @@
 -- What follows of an answer for what comes behind it.
-use Rattle.std.proofs.Common.{◌≡◌, ℤ, Option, Result, Ok, Err, ap, ◌∙◌}
-use Rattle.mr_base.specs.declared.reached.Reached.{Reached}
-use Rattle.mr_base.specs.declared.byte.Pointer.{Pointer}
-use Rattle.mr_mem.specs.Memory.{Memory}
-use Rattle.mr_base.specs.Script.{Done, Outcome, Refused, Went, on, run}
-use Rattle.mr_base.proofs.ScriptRuns.{run_bind}
-use Rattle.mr_value.specs.declared.val.Val.TheVariants as val
-use Rattle.mr_eval.specs.Moves.{moved}
+use Rattle.mr_eval.proofs.Common.{◌≡◌, ℤ, Option, Result, Ok, Err, ap, ◌∙◌, Reached, Pointer, Memory, Done, Outcome, Refused, Went, on, run, run_bind, moved, ReadScript, Seen, reading, Halt, Gives, same}
 use Rattle.mr_eval.specs.Operators.{moved_pointer}
-use Rattle.mr_eval.specs.Reads.{ReadScript, Seen, reading}
-use Rattle.mr_eval.specs.declared.halt.Halt.{Halt}
+use Rattle.mr_eval.specs.Answers.{Says, beside_of}
+use Rattle.mr_value.specs.declared.val.Val.TheVariants as val
 use Rattle.mr_eval.specs.declared.halt.Halt.TheVariants as halt
-use Rattle.mr_eval.specs.Answers.{Gives, Says, beside_of, same}
 use Rattle.mr_eval.proofs.RefusedLaws.{stop_plainly}
 
 -- what stops a part stops the whole

@@ -1,10 +1,7 @@
 -- The numbers that bits mean, the bits of a result, and whether it is a number of its type.
-use Rattle.std.proofs.Common.{◌≡◌, ℕ, ◌-◌, ◌*◌, ◌%◌, ◌^◌, Bool, true, false, cond, ltb, ap, arith, pow_pos}
-use Rattle.std.specs.Prelude.{ℤ, pos, ◌-ℤ◌, ◌*ℤ◌, unsigned_abs}
-use Rattle.std.proofs.lemmas.Int.{ints}
-use Rattle.mr_ast.specs.declared.types.IntType.{IntType}
-use Rattle.mr_ast.specs.Integers.{bits_of, is_signed}
-use Rattle.mr_eval.specs.Numbers.{number_at, value_of, bits_for}
+use Rattle.mr_eval.proofs.Common.{◌≡◌, ℕ, ◌-◌, ◌*◌, ◌%◌, ◌^◌, Bool, true, false, cond, ltb, ap, arith, pow_pos, ℤ, pos, ◌*ℤ◌, unsigned_abs, ints, IntType, bits_of, is_signed, value_of, bits_for}
+use Rattle.std.specs.Prelude.{◌-ℤ◌}
+use Rattle.mr_eval.specs.Numbers.{number_at}
 use Rattle.mr_eval.proofs.Residues.{IsCongruent, int_rem_euclid-congruent, congruent_pos, congruent_product}
 
 -- the number that bits mean differs from them by 0 or by 2 to the width

@@ -1,4 +1,5 @@
 pub mod CallLaws
+mod Common
 pub mod DiscSafe
 pub mod Division
 pub mod EvalRuns

@@ -1,26 +1,5 @@
 -- What the load of a value comes to.
-use Rattle.std.proofs.Common.{◌≡◌, ℕ, Bool, true, false, Option, None, Some, refl, sym, ap, ap₂, ◌∙◌}
-use Rattle.std.specs.Prelude.{if◌then◌else◌}
-use Rattle.mr_eval.specs.Typed.{meaningless}
-use Rattle.mr_base.specs.declared.reached.Reached.{Reached}
-use Rattle.mr_base.specs.declared.reached.Reaching.TheVariants.{Loads}
-use Rattle.mr_base.specs.Stops.{Stop, over, plainly, reached_by, stop_with}
-use Rattle.mr_ast.specs.declared.types.Ty.{Ty}
-use Rattle.mr_base.specs.declared.byte.Pointer.{Pointer}
-use Rattle.mr_base.specs.declared.reason.Reason.{Reason}
-use Rattle.mr_base.specs.declared.reason.Reason.TheVariants.{InvalidValue, TransmuteInvalid}
-use Rattle.mr_layout.specs.Sizes.{align_of, size_of}
-use Rattle.mr_mem.specs.Memory.{Memory}
-use Rattle.mr_base.specs.Script.{◌>>=◌, Broken, Done, Outcome, Refused, Went, on, run}
-use Rattle.mr_base.proofs.ScriptRuns.{run_bind}
-use Rattle.mr_value.specs.declared.val.Val.{Val}
-use Rattle.mr_value.specs.Decode.{decoded}
-use Rattle.mr_value.specs.Encode.{encoding_of}
-use Rattle.mr_value.specs.Numbers.{Bytes}
-use Rattle.mr_value.specs.Shape.{has_shape}
-use Rattle.mr_eval.specs.Reads.{Read, Seen, reading}
-use Rattle.mr_eval.specs.Typed.{loading, or_undefined, referred, referring, targets_of}
-use Rattle.mr_eval.specs.Evaluated.{meant_by, read_typed, referred_to, transmuted_to}
+use Rattle.mr_eval.proofs.Common.{◌≡◌, ℕ, Bool, true, false, Option, None, Some, refl, sym, ap, ap₂, ◌∙◌, if◌then◌else◌, meaningless, Reached, Loads, Stop, over, plainly, reached_by, stop_with, Ty, Pointer, Reason, InvalidValue, TransmuteInvalid, align_of, size_of, Memory, ◌>>=◌, Broken, Done, Outcome, Refused, Went, on, run, run_bind, Val, decoded, encoding_of, Bytes, has_shape, Read, Seen, reading, loading, or_undefined, referred, referring, targets_of, meant_by, read_typed, referred_to, transmuted_to}
 
 pub read_run : (m : Memory) (t : Ty) (p : Pointer) (seen : Seen) → read_typed m t p seen ≡ on (reading m (Read false p (size_of t) (align_of t)) seen) (λ bytes s. meant_by m (meaningless t p) t bytes s)
 unfolding read_typed meant_by loading

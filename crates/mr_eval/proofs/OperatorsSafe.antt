@@ -1,52 +1,24 @@
 -- Operators on values whose types fit are never ill-formed, and what they give has its type's shape.
-use Rattle.std.proofs.Common.{◌≡◌, ℕ, ◌*◌, ◌^◌, ◌<◌, [], ◌∷◌, Option, None, Some, Bool, true, false, refl, sym, ap, subst, ◌∙◌}
-use Rattle.std.specs.Prelude.{not, ◌&&◌, ◌||◌, ◌==◌, is_some, neg_ℤ, if◌then◌else◌}
-use Rattle.std.specs.Option.{option_map}
+use Rattle.mr_eval.proofs.Common.{◌≡◌, ℕ, ◌*◌, ◌^◌, ◌<◌, [], ◌∷◌, Option, None, Some, Bool, true, false, refl, sym, ap, subst, ◌∙◌, not, ◌&&◌, ◌||◌, ◌==◌, is_some, neg_ℤ, if◌then◌else◌, option_map, same_Some, and_parts, bits_of, int_size, IntType, U8, U16, U32, U64, U128, I8, I16, I32, I64, I128, Ty, BinaryOp, UnaryOp, Pointer, ArithOp, ShiftOp, arith_of, overflowing_of, value_of, shift_of, Val, out-Val, Val-F, has_shape, lt_from, lt_test, has_bool, has_int, has_raw, has_tuple, shape_bool, shape_int, shape_raw, Done, ◌>>=◌, is_bool, is_int, is_raw, is_scalar_number, integer_in, integer_of, overflow_type, result_type, bool_is, integer_is, raw_is, same_type_equal, ReadScript, behind, moved, binary_of, cast_value, like, or_ill_formed, or_reason, unary_of, IsSafe, any_result}
 use Rattle.std.specs.Cmp.Derive.{both_true}
-use Rattle.std.proofs.lemmas.Option.{same_Some}
-use Rattle.std.proofs.lemmas.Bool.{and_parts}
-use Rattle.mr_ast.specs.Integers.{bits_of, int_size}
-use Rattle.mr_ast.specs.declared.types.IntType.{IntType}
-use Rattle.mr_ast.specs.declared.types.IntType.TheVariants.{U8, U16, U32, U64, U128, I8, I16, I32, I64, I128}
-use Rattle.mr_ast.specs.declared.types.Ty.{Ty}
-use Rattle.mr_ast.specs.declared.types.Ty.TheVariants as ty
-use Rattle.mr_ast.specs.declared.expr.BinaryOp.{BinaryOp}
-use Rattle.mr_ast.specs.declared.expr.BinaryOp.TheVariants as binary
-use Rattle.mr_ast.specs.declared.expr.UnaryOp.{UnaryOp}
-use Rattle.mr_ast.specs.declared.expr.UnaryOp.TheVariants as unary
-use Rattle.mr_base.specs.declared.byte.Pointer.{Pointer}
-use Rattle.mr_eval.specs.declared.arithmetic.ArithOp.{ArithOp}
-use Rattle.mr_eval.specs.declared.arithmetic.ArithOp.TheVariants as arith_op
 use Rattle.mr_eval.specs.declared.comparisons.CmpOp.{CmpOp}
-use Rattle.mr_eval.specs.declared.comparisons.CmpOp.TheVariants as cmp_op
-use Rattle.mr_eval.specs.declared.shifts.ShiftOp.{ShiftOp}
-use Rattle.mr_eval.specs.declared.shifts.ShiftOp.TheVariants as shift_op
-use Rattle.mr_eval.specs.Arith.{arith_of, overflowing_of}
 use Rattle.mr_eval.specs.Cast.{cast_of, invert_of, negate_of}
 use Rattle.mr_eval.specs.Compare.{compare_of}
-use Rattle.mr_eval.specs.Numbers.{value_of}
-use Rattle.mr_eval.specs.Shift.{shift_of}
-use Rattle.mr_eval.proofs.Within.{arith_of-within, bits_for-lt, invert_of-lt, overflowing_of-within, shift_of-within}
-use Rattle.mr_value.specs.declared.val.Val.{Val, out-Val}
-use Rattle.mr_value.specs.declared.val.Val.TheOpen.{Val-F}
-use Rattle.mr_value.specs.declared.val.Val.TheVariants as val
-use Rattle.mr_value.specs.Shape.{has_shape}
-use Rattle.mr_base.proofs.Comparisons.{lt_from, lt_test}
-use Rattle.mr_value.proofs.ShapeLaws.{has_bool, has_int, has_raw, has_tuple, shape_bool, shape_int, shape_raw}
-use Rattle.mr_base.specs.Script.{Done, ◌>>=◌}
 use Rattle.mr_typing.specs.SameTypes.{same_type}
-use Rattle.mr_typing.specs.Operands.{fits_binary, fits_unary, is_bool, is_int, is_integer, is_raw, is_scalar_number}
-use Rattle.mr_typing.specs.Types.{integer_in, integer_of, overflow_type, result_type}
-use Rattle.mr_typing.proofs.KindLaws.{bool_is, integer_is, raw_is}
-use Rattle.mr_typing.proofs.SameTypeLaws.{same_type_equal}
-use Rattle.mr_eval.specs.Reads.{ReadScript}
-use Rattle.mr_eval.specs.Moves.{behind, moved}
+use Rattle.mr_typing.specs.Operands.{fits_binary, fits_unary, is_integer}
 use Rattle.mr_eval.specs.declared.kinds.Operator.{Operator}
 use Rattle.mr_eval.specs.declared.kinds.OverflowOp.{OverflowOp}
-use Rattle.mr_eval.specs.declared.kinds.OverflowOp.TheVariants as overflow_op
 use Rattle.mr_eval.specs.declared.kinds.Operator.TheVariants.{Arith, Comparing, Moving, Overflowing, Shifting, Wrapping}
-use Rattle.mr_eval.specs.Operators.{binary_of, cast_layer, cast_value, integer_like, like, operated, or_ill_formed, or_reason, right_in, unary_in, unary_of, exact}
-use Rattle.mr_eval.specs.Sound.{IsSafe, any_result}
+use Rattle.mr_eval.specs.Operators.{cast_layer, integer_like, operated, right_in, unary_in, exact}
+use Rattle.mr_ast.specs.declared.types.Ty.TheVariants as ty
+use Rattle.mr_ast.specs.declared.expr.BinaryOp.TheVariants as binary
+use Rattle.mr_ast.specs.declared.expr.UnaryOp.TheVariants as unary
+use Rattle.mr_eval.specs.declared.arithmetic.ArithOp.TheVariants as arith_op
+use Rattle.mr_eval.specs.declared.comparisons.CmpOp.TheVariants as cmp_op
+use Rattle.mr_eval.specs.declared.shifts.ShiftOp.TheVariants as shift_op
+use Rattle.mr_eval.proofs.Within.{arith_of-within, bits_for-lt, invert_of-lt, overflowing_of-within, shift_of-within}
+use Rattle.mr_value.specs.declared.val.Val.TheVariants as val
+use Rattle.mr_eval.specs.declared.kinds.OverflowOp.TheVariants as overflow_op
 use Rattle.mr_eval.proofs.SafeLaws.{moved_safe, safe_result, safe_then}
 
 -- ---- values of a type

@@ -1,15 +1,10 @@
 -- What an overflowing operator gives is a well-formed type.
-use Rattle.std.proofs.Common.{◌≡◌, ◌*◌, [], ◌∷◌, None, refl}
+use Rattle.mr_eval.proofs.Common.{◌≡◌, ◌*◌, [], ◌∷◌, None, refl, IntType, U8, U16, U32, U64, U128, I8, I16, I32, I64, I128, int_size, TypeOk, overflow_type}
 use Rattle.std.specs.Int.Count.{ones}
-use Rattle.mr_ast.specs.declared.types.IntType.{IntType}
-use Rattle.mr_ast.specs.declared.types.IntType.TheVariants.{U8, U16, U32, U64, U128, I8, I16, I32, I64, I128}
-use Rattle.mr_ast.specs.declared.types.Ty.TheVariants as ty
-use Rattle.mr_ast.specs.Integers.{int_size}
 use Rattle.mr_layout.specs.Rules.{tuple_rules}
-use Rattle.mr_layout.specs.TypeOk.{TypeOk}
 use Rattle.mr_layout.proofs.BrokenLaws.{broken_bool, broken_int, broken_tuple}
 use Rattle.mr_layout.proofs.SizeLaws.{size_laws}
-use Rattle.mr_typing.specs.Types.{overflow_type}
+use Rattle.mr_ast.specs.declared.types.Ty.TheVariants as ty
 
 rules_kept : (i : IntType) → tuple_rules (2 * int_size i) (int_size i) ((0, ty.Int i) ∷ (int_size i, ty.Bool) ∷ []) ≡ None
 unfolding tuple_rules ones

@@ -1,24 +1,12 @@
 -- The reasons of operators speak of no bytes.
-use Rattle.std.proofs.Common.{◌≡◌, ℕ, Bool, true, false, Result, Ok, Err, refl, subst, ap}
-use Rattle.std.specs.Prelude.{◌&&◌, ℤ, pos, negsuc, if◌then◌else◌}
-use Rattle.std.specs.Ordering.{int_eq}
-use Rattle.mr_ast.specs.Integers.{fits, least_of}
-use Rattle.mr_ast.specs.declared.types.IntType.{IntType}
-use Rattle.mr_base.specs.Script.{Done, Undefined, ◌>>=◌}
-use Rattle.mr_base.specs.Stops.{plainly, speaks}
-use Rattle.mr_base.specs.declared.reason.Reason.{Reason}
-use Rattle.mr_base.specs.declared.reason.Reason.TheVariants.{DivOverflow, Overflow, ShiftAmount, ZeroDivisor}
-use Rattle.mr_eval.specs.declared.arithmetic.ArithOp.{ArithOp}
+use Rattle.mr_eval.proofs.Common.{◌≡◌, ℕ, Bool, true, false, Result, Ok, Err, refl, subst, ap, ◌&&◌, ℤ, pos, negsuc, if◌then◌else◌, int_eq, least_of, IntType, Done, Undefined, ◌>>=◌, plainly, speaks, Reason, DivOverflow, Overflow, ShiftAmount, ZeroDivisor, ArithOp, ShiftOp, arith_of, if_quotient_defined, bits_for, value_of, shift_of, Val, Val-F, like, or_reason}
+use Rattle.mr_ast.specs.Integers.{fits}
 use Rattle.mr_eval.specs.declared.arithmetic.ArithOp.TheVariants.{Add, AddUnchecked, And, Div, Mul, MulUnchecked, Or, Rem, Sub, SubUnchecked, Xor}
-use Rattle.mr_eval.specs.declared.shifts.ShiftOp.{ShiftOp}
 use Rattle.mr_eval.specs.declared.shifts.ShiftOp.TheVariants.{Shl, ShlUnchecked, Shr, ShrUnchecked}
-use Rattle.mr_eval.specs.Arith.{arith_of, if_quotient_defined, unless_overflow}
-use Rattle.mr_eval.specs.Numbers.{bits_for, value_of}
-use Rattle.mr_eval.specs.Shift.{is_amount, shift_of}
-use Rattle.mr_value.specs.declared.val.Val.{Val}
-use Rattle.mr_value.specs.declared.val.Val.TheOpen.{Val-F}
+use Rattle.mr_eval.specs.Arith.{unless_overflow}
+use Rattle.mr_eval.specs.Shift.{is_amount}
+use Rattle.mr_eval.specs.Operators.{arith_like, shift_like}
 use Rattle.mr_value.specs.declared.val.Val.TheVariants as val
-use Rattle.mr_eval.specs.Operators.{arith_like, like, or_reason, shift_like}
 
 -- a result without a reason that speaks of bytes
 abbrev pub IsOwnResult : {X : Type 0} → Result X Reason → Type 0

@@ -1,21 +1,10 @@
 -- The parts of a well-formed type: a field, an element and a variant are well-formed, and lie where evaluation looks for them.
-use Rattle.std.proofs.Common.{◌≡◌, ℕ, zero, suc, ◌*◌, ◌^◌, ◌<◌, ◌≤◌, List, [], ◌∷◌, Option, Some, Bool, true, false, refl, sym, subst, arith}
-use Rattle.std.specs.Prelude.{slice_get, if◌then◌else◌}
-use Rattle.std.specs.Option.{option_map}
-use Rattle.std.proofs.lemmas.Option.{same_Some}
-use Rattle.mr_ast.specs.declared.types.Num.{Num}
-use Rattle.mr_ast.specs.declared.types.Ty.{Ty, out-Ty, roll-Ty}
-use Rattle.mr_ast.specs.declared.types.Ty.TheVariants as ty
-use Rattle.mr_ast.specs.declared.types.Ty.TheOpen.{Ty-F}
-use Rattle.mr_ast.specs.declared.types.Variant.{Variant}
-use Rattle.mr_layout.specs.EnumRules.{same_num}
+use Rattle.mr_eval.proofs.Common.{◌≡◌, ℕ, zero, suc, ◌*◌, ◌^◌, ◌<◌, ◌≤◌, List, [], ◌∷◌, Option, Some, Bool, true, false, refl, sym, subst, arith, slice_get, if◌then◌else◌, option_map, same_Some, Num, Ty, out-Ty, roll-Ty, Ty-F, Variant, same_num, size_of, TypeOk, enum_ok, union_ok, element_type, field_in, field_type, variant_among, variant_in, variant_type, type_made, elements_in, offset_in}
 use Rattle.mr_layout.proofs.PartFacts.{FieldsOk, PartOk, VariantsOk}
-use Rattle.mr_layout.specs.Sizes.{size_of}
-use Rattle.mr_layout.specs.TypeOk.{TypeOk}
-use Rattle.mr_layout.proofs.WellFormed.{array_ok, enum_ok, tuple_ok, union_ok}
-use Rattle.mr_typing.specs.Types.{element_in, element_type, field_in, field_offset, field_type, variant_among, variant_in, variant_type}
-use Rattle.mr_ast.proofs.TypeInduction.{type_made}
-use Rattle.mr_eval.specs.Evaluation.{elements, elements_in, offset_in}
+use Rattle.mr_layout.proofs.WellFormed.{array_ok, tuple_ok}
+use Rattle.mr_typing.specs.Types.{element_in, field_offset}
+use Rattle.mr_eval.specs.Evaluation.{elements}
+use Rattle.mr_ast.specs.declared.types.Ty.TheVariants as ty
 
 abbrev Layer : Type 0
 Layer = Ty-F Ty Variant

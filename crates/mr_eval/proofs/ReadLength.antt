@@ -1,14 +1,10 @@
 -- A load gives as many bytes as were asked for.
-use Rattle.std.proofs.Common.{◌≡◌, ℕ, ◌+◌, ◌-◌, ◌≤◌, List, [], Option, None, Some, Result, Ok, Err, Bool, true, false, length, drop, refl, subst, arith}
-use Rattle.std.specs.Prelude.{◌&&◌, ◌==◌, nat_le, if◌then◌else◌}
+use Rattle.mr_eval.proofs.Common.{◌≡◌, ℕ, ◌+◌, ◌-◌, ◌≤◌, List, [], Option, None, Some, Result, Ok, Err, Bool, true, false, length, drop, refl, subst, arith, ◌&&◌, ◌==◌, nat_le, if◌then◌else◌, and_parts, Pointer, Reason, Memory, read}
 use Rattle.std.proofs.lemmas.Bool.Decides.{nat_tests}
 use Rattle.std.proofs.lemmas.List.{length-drop, length-take-le}
-use Rattle.std.proofs.lemmas.Bool.{and_parts}
 use Rattle.mr_base.specs.declared.byte.AbstractByte.{AbstractByte}
-use Rattle.mr_base.specs.declared.byte.Pointer.{Pointer}
-use Rattle.mr_base.specs.declared.reason.Reason.{Reason}
 use Rattle.mr_base.specs.declared.reason.Reason.TheVariants.{DeadAllocation, Misaligned, OutOfBounds}
-use Rattle.mr_mem.specs.Memory.{Allocation, Memory, bytes_at, found, inside, is_multiple, read, then_give}
+use Rattle.mr_mem.specs.Memory.{Allocation, bytes_at, found, inside, is_multiple, then_give}
 
 in_range : (a : Allocation) (addr len : ℕ) → (nat_le a.addr addr && nat_le (addr + len) (a.addr + length a.bytes)) ≡ true → length (bytes_at a addr len) ≡ len
 in_range a addr len e =

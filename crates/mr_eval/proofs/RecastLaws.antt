@@ -1,31 +1,9 @@
 -- Values that are made of the bytes of others: unions of which a field is written, and transmuted values.
-use Rattle.std.proofs.Common.{◌≡◌, ℕ, ◌+◌, ◌≤◌, List, ◌++◌, Option, None, Some, true, length, sym, ap, ap₂, subst, ◌∙◌, arith, append-nil}
-use Rattle.std.specs.Prelude.{slice_get}
-use Rattle.std.specs.Option.{option_map}
-use Rattle.std.proofs.lemmas.List.{drop_all, length-replicate}
-use Rattle.std.proofs.lemmas.Option.{same_Some}
-use Rattle.mr_ast.specs.declared.types.Ty.{Ty, out-Ty}
-use Rattle.mr_ast.specs.declared.types.Ty.TheVariants as ty
-use Rattle.mr_ast.specs.declared.types.Ty.TheOpen.{Ty-F}
-use Rattle.mr_ast.specs.declared.types.Variant.{Variant}
+use Rattle.mr_eval.proofs.Common.{◌≡◌, ℕ, ◌+◌, ◌≤◌, List, ◌++◌, Option, None, Some, true, length, sym, ap, ap₂, subst, ◌∙◌, arith, append-nil, slice_get, option_map, drop_all, length-replicate, same_Some, Ty, out-Ty, Ty-F, Variant, size_of, TypeOk, union_ok, with_range_replaced, Done, ◌>>=◌, Val, chunks_in, decoded, blank, encoding_of, Bytes, has_shape, length-encoding_of, field_in, field_type, FieldShaped, union_layer, union_of, or_ill_formed}
 use Rattle.mr_base.specs.declared.byte.AbstractByte.TheVariants.{Uninit}
-use Rattle.mr_layout.specs.Sizes.{size_of}
-use Rattle.mr_layout.specs.TypeOk.{TypeOk}
-use Rattle.mr_layout.proofs.WellFormed.{union_ok}
-use Rattle.mr_runs.specs.Ranges.{with_range_replaced}
-use Rattle.mr_base.specs.Script.{Done, ◌>>=◌}
-use Rattle.mr_value.specs.declared.val.Val.{Val}
-use Rattle.mr_value.specs.declared.val.Val.TheVariants as val
-use Rattle.mr_value.specs.Decode.{chunks_in, decoded}
-use Rattle.mr_value.specs.Encode.{blank, encoding_of}
-use Rattle.mr_value.specs.Numbers.{Bytes}
-use Rattle.mr_value.specs.Shape.{has_shape}
 use Rattle.mr_value.proofs.DecodeLaws.{decode_union}
-use Rattle.mr_value.proofs.EncodeLength.{length-encoding_of}
-use Rattle.mr_typing.specs.Types.{field_in, field_type}
-use Rattle.mr_eval.specs.Answers.{FieldShaped}
-use Rattle.mr_eval.specs.Evaluation.{union_layer, union_of}
-use Rattle.mr_eval.specs.Operators.{or_ill_formed}
+use Rattle.mr_ast.specs.declared.types.Ty.TheVariants as ty
+use Rattle.mr_value.specs.declared.val.Val.TheVariants as val
 use Rattle.mr_eval.proofs.ShapeOf.{field_inside, replaced_length}
 
 -- the whole of some bytes, replaced

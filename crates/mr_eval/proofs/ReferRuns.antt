@@ -1,15 +1,5 @@
 -- What reference checks in a row come to.
-use Rattle.std.proofs.Common.{◌≡◌, ℕ, ◌+◌, ◌<◌, ◌≤◌, [], ◌∷◌, Option, Err, length, drop, get_or, refl, ap, ◌∙◌}
-use Rattle.std.proofs.lemmas.List.{drop_all, drop_more}
-use Rattle.mr_base.specs.declared.byte.Pointer.{Pointer}
-use Rattle.mr_base.specs.declared.reached.Reached.{Reached}
-use Rattle.mr_mem.specs.Memory.{Memory}
-use Rattle.mr_base.specs.Script.{Outcome, Went, on}
-use Rattle.mr_eval.specs.declared.halt.Halt.{Halt}
-use Rattle.mr_eval.specs.Answers.{Gives, same}
-use Rattle.mr_eval.specs.Reads.{Refer, Seen, reading}
-use Rattle.mr_eval.specs.Typed.{Targets}
-use Rattle.mr_eval.specs.Evaluated.{referred_to}
+use Rattle.mr_eval.proofs.Common.{◌≡◌, ℕ, ◌+◌, ◌<◌, ◌≤◌, [], ◌∷◌, Option, Err, length, drop, get_or, refl, ap, ◌∙◌, drop_all, drop_more, Pointer, Reached, Memory, Outcome, Went, on, Halt, Gives, same, Refer, Seen, reading, Targets, referred_to}
 use Rattle.mr_eval.proofs.GivesLaws.{gives_stop}
 
 referred_none : (m : Memory) (seen : Seen) → referred_to m [] seen ≡ Went tt seen

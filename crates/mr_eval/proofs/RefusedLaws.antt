@@ -1,26 +1,16 @@
 -- What memory refuses stops with the bytes that it was asked for.
-use Rattle.std.proofs.Common.{◌≡◌, ℕ, Bool, false, true, refl, sym, subst, ap, ◌∙◌, List, length, Option, Some, None, Result, Ok, Err}
-use Rattle.std.specs.Prelude.{if◌then◌else◌}
-use Rattle.mr_base.specs.Script.{Outcome, Refused}
-use Rattle.mr_base.specs.Stops.{Stop, over, plainly, reached_by, speaks, stop_with}
+use Rattle.mr_eval.proofs.Common.{◌≡◌, ℕ, Bool, false, true, refl, sym, subst, ap, ◌∙◌, List, length, Option, Some, None, Result, Ok, Err, if◌then◌else◌, Outcome, Refused, Stop, over, plainly, reached_by, speaks, stop_with, AllocId, Pointer, Reached, Loads, Moves, Refers, Reason, DanglingReference, Memory, checked, read, Leaves, Check, Read, Refer, Seen, answered, named, reading}
 use Rattle.mr_base.specs.declared.byte.AbstractByte.{AbstractByte}
-use Rattle.mr_base.specs.declared.byte.AllocId.{AllocId}
 use Rattle.mr_base.specs.declared.byte.Kind.{Kind}
-use Rattle.mr_base.specs.declared.byte.Pointer.{Pointer}
-use Rattle.mr_base.specs.declared.reached.Reached.{Reached}
-use Rattle.mr_base.specs.declared.reached.Reaching.TheVariants.{Frees, Loads, Moves, Refers, Stores}
-use Rattle.mr_base.specs.declared.reason.Reason.{Reason}
-use Rattle.mr_base.specs.declared.reason.Reason.TheVariants.{DanglingReference}
+use Rattle.mr_base.specs.declared.reached.Reaching.TheVariants.{Frees, Stores}
 use Rattle.mr_mem.proofs.SpeakingLaws.{SpeakResult, Speaks, checked_speaks, freed_speaks, read_speaks, written_speaks}
-use Rattle.mr_mem.specs.Memory.{Memory, checked, freed, read, written}
+use Rattle.mr_mem.specs.Memory.{freed, written}
 use Rattle.mr_mem.specs.Stored.{IsStored}
 use Rattle.mr_mem.specs.declared.fault.Fault.{Fault}
-use Rattle.mr_mem.specs.declared.fault.Fault.TheVariants as fault
-use Rattle.mr_eval.specs.Environment.{Leaves}
 use Rattle.mr_eval.specs.MemoryQueries.{Free, memory_answer}
-use Rattle.mr_eval.specs.Reads.{Check, Read, Refer, Seen, answered, named, reading}
 use Rattle.mr_eval.specs.Stores.{storing}
 use Rattle.mr_eval.specs.World.{World}
+use Rattle.mr_mem.specs.declared.fault.Fault.TheVariants as fault
 
 -- a stop by whether its reason speaks of bytes
 abbrev stop_if : Option Reached → Reason → Bool → Stop

@@ -1,8 +1,7 @@
 -- Integers and naturals that differ by a multiple of a modulus.
-use Rattle.std.proofs.Common.{◌≡◌, ℕ, ◌+◌, ◌*◌, ◌%◌, ◌<◌, refl, ap, ◌∙◌, arith}
-use Rattle.std.specs.Prelude.{ℤ, pos, ◌*ℤ◌}
+use Rattle.mr_eval.proofs.Common.{◌≡◌, ℕ, ◌+◌, ◌*◌, ◌%◌, ◌<◌, refl, ap, ◌∙◌, arith, ℤ, pos, ◌*ℤ◌, ints}
 use Rattle.std.specs.Int.{int_rem_euclid}
-use Rattle.std.proofs.lemmas.Int.{ints, int_rem_euclid_is}
+use Rattle.std.proofs.lemmas.Int.{int_rem_euclid_is}
 use Rattle.std.proofs.Math.Nat.{add-mul-mod_self_right}
 use borrow.Author.Differences.{up, down, product_is}
 

@@ -1,16 +1,5 @@
 -- The evaluation of values in a row, one after the other.
-use Rattle.std.proofs.Common.{◌≡◌, ℕ, ◌+◌, ◌<◌, ◌≤◌, List, [], ◌∷◌, ◌++◌, Option, Err, length, drop, get_or, refl, sym, ap, ◌∙◌, append-nil, append_assoc}
-use Rattle.std.proofs.lemmas.List.{drop_all}
-use Rattle.mr_ast.specs.declared.expr.Value.{Value}
-use Rattle.mr_base.specs.declared.reached.Reached.{Reached}
-use Rattle.mr_mem.specs.Memory.{Memory}
-use Rattle.mr_base.specs.Script.{Broken, Outcome, Refused, Went, on}
-use Rattle.mr_value.specs.declared.val.Val.{Val}
-use Rattle.mr_eval.specs.declared.halt.Halt.{Halt}
-use Rattle.mr_eval.specs.Answers.{Gives, same, value_in}
-use Rattle.mr_eval.specs.Evaluated.{each_valued, valued}
-use Rattle.mr_eval.specs.Evaluation.{Surround}
-use Rattle.mr_eval.specs.Reads.{Seen}
+use Rattle.mr_eval.proofs.Common.{◌≡◌, ℕ, ◌+◌, ◌<◌, ◌≤◌, List, [], ◌∷◌, ◌++◌, Option, Err, length, drop, get_or, refl, sym, ap, ◌∙◌, append-nil, append_assoc, drop_all, Value, Reached, Memory, Broken, Outcome, Refused, Went, on, Val, Halt, Gives, same, value_in, each_valued, valued, Surround, Seen}
 use Rattle.mr_eval.proofs.EvalRuns.{each_at, each_none}
 use Rattle.mr_eval.proofs.GivesLaws.{gives_stop}
 

@@ -1,27 +1,10 @@
 -- Scripts that are never ill-formed, by their parts.
-use Rattle.std.proofs.Common.{◌≡◌, [], ◌∷◌, Option, None, Some, Result, Ok, Err, Bool, true, false, length, refl, sym, subst}
-use Rattle.std.specs.Prelude.{◌^◌, ◌&&◌, ℤ, pos, ◌+ℤ◌, int_le, int_lt, unsigned_abs, if◌then◌else◌}
-use Rattle.std.specs.Ordering.{int_eq}
-use Rattle.mr_base.specs.Stops.{plainly}
-use Rattle.mr_base.specs.Stops.{Stop}
-use Rattle.mr_ast.specs.declared.types.Ty.{Ty}
-use Rattle.mr_base.specs.declared.byte.Pointer.{Pointer}
-use Rattle.mr_base.specs.declared.reason.Reason.{Reason}
-use Rattle.mr_layout.specs.Sizes.{size_of}
-use Rattle.mr_layout.specs.TypeOk.{TypeOk}
-use Rattle.mr_value.specs.declared.val.Val.{Val}
-use Rattle.mr_value.specs.Decode.{decoded}
-use Rattle.mr_value.specs.Numbers.{Bytes}
-use Rattle.mr_value.specs.Shape.{has_shape}
+use Rattle.mr_eval.proofs.Common.{◌≡◌, [], ◌∷◌, Option, None, Some, Result, Ok, Err, Bool, true, false, length, refl, sym, subst, ◌^◌, ◌&&◌, ℤ, pos, unsigned_abs, if◌then◌else◌, int_eq, plainly, Stop, Ty, Pointer, Reason, size_of, TypeOk, Val, decoded, Bytes, has_shape, Done, Undefined, Ask, ◌>>=◌, Check, ReadScript, moved, Targets, loading, meant, or_undefined, referred, referring, targets_of, or_ill_formed, or_reason, Good, IsSafe, any_result}
+use Rattle.std.specs.Prelude.{◌+ℤ◌, int_le, int_lt}
 use Rattle.mr_value.proofs.DecodeShape.{decoded_has_shape}
 use Rattle.mr_base.specs.declared.reason.Reason.TheVariants.{OffsetOverflow}
-use Rattle.mr_base.specs.Script.{Done, Undefined, Ask, ◌>>=◌}
 use Rattle.mr_base.proofs.ScriptRuns.{safe_bind}
-use Rattle.mr_eval.specs.Reads.{Check, ReadScript}
-use Rattle.mr_eval.specs.Moves.{at_address, lower, moved, moved_to}
-use Rattle.mr_eval.specs.Typed.{Targets, loading, meant, or_undefined, referred, referring, targets_of}
-use Rattle.mr_eval.specs.Operators.{or_ill_formed, or_reason}
-use Rattle.mr_eval.specs.Sound.{Good, IsSafe, any_result}
+use Rattle.mr_eval.specs.Moves.{at_address, lower, moved_to}
 
 -- ---- parts
 

@@ -1,20 +1,6 @@
 -- A script that is never ill-formed comes to no state without a rule over any memory.
-use Rattle.std.proofs.Common.{◌≡◌, ℕ, List, [], Result, Ok, Err, true, false, length}
-use Rattle.mr_base.specs.declared.reached.Reaching.TheVariants.{Loads, Moves, Refers}
-use Rattle.mr_base.specs.declared.reached.Reached.{Reached}
-use Rattle.mr_base.specs.Stops.{reached_by}
-use Rattle.mr_ast.specs.ShapedValues.{Named, is_shaped_place, is_shaped_value}
-use Rattle.mr_ast.specs.declared.expr.Place.{Place}
-use Rattle.mr_ast.specs.declared.expr.Value.{Value}
-use Rattle.mr_base.specs.declared.reason.Reason.{Reason}
-use Rattle.mr_base.specs.declared.reason.Reason.TheVariants.{DanglingReference}
-use Rattle.mr_mem.specs.Memory.{Memory, checked, read}
-use Rattle.mr_base.specs.Script.{Done, Undefined, IllFormed, Ask, Outcome, Went, on, run}
-use Rattle.mr_typing.specs.Broken.{broken_in_place, broken_in_value}
-use Rattle.mr_eval.specs.Reads.{Check, Read, ReadQuery, ReadReply, ReadScript, Refer, Seen, accessing, answered, named, reading, seeing, touching}
-use Rattle.mr_eval.specs.Evaluated.{placed, valued}
-use Rattle.mr_eval.specs.Evaluation.{Surround, place_script, value_script}
-use Rattle.mr_eval.specs.Sound.{Comes, Good, IsSafe, Stands, any_result}
+use Rattle.mr_eval.proofs.Common.{◌≡◌, ℕ, List, [], Result, Ok, Err, true, false, length, Loads, Moves, Refers, Reached, reached_by, Named, is_shaped_place, is_shaped_value, Place, Value, Reason, DanglingReference, Memory, checked, read, Done, Undefined, IllFormed, Ask, Outcome, Went, on, run, broken_in_place, broken_in_value, Check, Read, ReadScript, Refer, Seen, accessing, answered, named, reading, seeing, touching, placed, valued, Surround, place_script, value_script, Comes, Good, IsSafe, Stands, any_result}
+use Rattle.mr_eval.specs.Reads.{ReadQuery, ReadReply}
 use Rattle.mr_eval.proofs.ExprSafe.{place_safe, value_safe}
 use Rattle.mr_eval.proofs.OperatorsSafe.{Shaped}
 use Rattle.mr_eval.proofs.ReadLength.{IsWhere, read_length}

@@ -1,23 +1,9 @@
 -- What the code takes apart of an integer or a bool.
-use Rattle.std.proofs.Common.{◌≡◌, ℕ, ◌*◌, ◌^◌, ◌<◌, Bool, true, Option, None, Some, sym, ap, ◌∙◌, subst}
-use Rattle.std.specs.Prelude.{◌||◌, is_some}
-use Rattle.mr_ast.specs.declared.types.IntType.{IntType}
-use Rattle.mr_ast.specs.declared.types.Ty.{Ty, out-Ty}
-use Rattle.mr_ast.specs.declared.types.Ty.TheOpen.{Ty-F}
-use Rattle.mr_ast.specs.declared.types.Ty.TheVariants as ty
-use Rattle.mr_ast.specs.declared.types.Variant.{Variant}
-use Rattle.mr_ast.specs.Integers.{int_size}
-use Rattle.mr_value.specs.declared.val.Val.{Val, out-Val}
-use Rattle.mr_value.specs.declared.val.Val.TheOpen.{Val-F}
-use Rattle.mr_value.specs.declared.val.Val.TheVariants as val
-use Rattle.mr_value.specs.Discriminants.{number_of_bits}
-use Rattle.mr_value.specs.Shape.{has_shape}
-use Rattle.mr_value.proofs.ShapeLaws.{shape_bool, shape_int}
-use Rattle.mr_typing.specs.Operands.{is_bool, is_scalar_number}
-use Rattle.mr_typing.specs.Types.{integer_of}
-use Rattle.mr_typing.proofs.KindLaws.{bool_is, integer_is}
+use Rattle.mr_eval.proofs.Common.{◌≡◌, ℕ, ◌*◌, ◌^◌, ◌<◌, Bool, true, Option, None, Some, sym, ap, ◌∙◌, subst, ◌||◌, is_some, IntType, Ty, out-Ty, Ty-F, Variant, int_size, Val, out-Val, Val-F, number_of_bits, has_shape, shape_bool, shape_int, is_bool, is_scalar_number, integer_of, bool_is, integer_is}
 use Rattle.mr_eval.specs.declared.scalars.Scalar.TheVariants.{Number, Truth}
 use Rattle.mr_eval.specs.Scalars.{scalar_as, scalar_layer}
+use Rattle.mr_ast.specs.declared.types.Ty.TheVariants as ty
+use Rattle.mr_value.specs.declared.val.Val.TheVariants as val
 use Rattle.mr_eval.proofs.NumberLaws.{int_fits}
 
 pub int_value : (t : Ty) (v : Val) (i : IntType) → integer_of t ≡ Some i → has_shape t v ≡ true → (n : ℕ) × (v ≡ val.Int n)

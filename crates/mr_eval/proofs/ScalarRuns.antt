@@ -1,25 +1,7 @@
 -- What the load of an integer, a bool or a pointer comes to, whatever was noted before.
-use Rattle.std.proofs.Common.{◌≡◌, ℕ, [], false, Option, None, Some, Result, Ok, Err, sym, subst, ap, ◌∙◌}
-use Rattle.mr_eval.specs.Typed.{meaningless}
-use Rattle.mr_base.specs.declared.reached.Reached.{Reached}
-use Rattle.mr_base.specs.declared.reached.Reaching.TheVariants.{Loads, Refers}
-use Rattle.mr_base.specs.Stops.{Stop, reached_by}
-use Rattle.mr_ast.specs.declared.types.Ty.{Ty}
-use Rattle.mr_base.specs.declared.byte.AllocId.{AllocId}
-use Rattle.mr_base.specs.declared.byte.Pointer.{Pointer}
-use Rattle.mr_base.specs.declared.reason.Reason.{Reason}
-use Rattle.mr_base.specs.declared.reason.Reason.TheVariants.{DanglingReference, InvalidValue}
-use Rattle.mr_layout.specs.Sizes.{align_of, size_of}
-use Rattle.mr_mem.specs.Memory.{Memory, checked, read}
-use Rattle.mr_base.specs.Script.{Outcome, Refused, Went, on, run}
-use Rattle.mr_value.specs.declared.val.Val.{Val}
-use Rattle.mr_value.specs.Decode.{decoded}
-use Rattle.mr_value.specs.Numbers.{Bytes}
+use Rattle.mr_eval.proofs.Common.{◌≡◌, ℕ, [], false, Option, None, Some, Result, Ok, Err, sym, subst, ap, ◌∙◌, meaningless, Reached, Loads, Refers, Stop, reached_by, Ty, AllocId, Pointer, Reason, DanglingReference, InvalidValue, align_of, size_of, Memory, checked, read, Outcome, Refused, Went, on, run, Val, decoded, Bytes, meant_by, read_typed, referred_to, Seen, accessing, answered, named, reading, seeing, touching, Targets, referring, targets_of}
 use Rattle.mr_eval.specs.Answers.{Reasons}
-use Rattle.mr_eval.specs.Evaluated.{meant_by, read_typed, referred_to}
 use Rattle.mr_eval.specs.Noted.{listed, noted_load, noted_targets}
-use Rattle.mr_eval.specs.Reads.{Seen, accessing, answered, named, reading, seeing, touching}
-use Rattle.mr_eval.specs.Typed.{Targets, referring, targets_of}
 use Rattle.mr_eval.proofs.LoadRuns.{meant_none, meant_some, read_run}
 
 -- what is noted of the bytes

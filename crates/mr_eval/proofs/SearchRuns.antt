@@ -1,21 +1,6 @@
 -- What the search for a discriminant comes to, by the kind of tree.
-use Rattle.std.proofs.Common.{◌≡◌, ℕ, List, [], ◌∷◌, Bool, true, false, refl, ap, ◌∙◌}
-use Rattle.std.specs.Prelude.{if◌then◌else◌}
-use Rattle.mr_base.specs.Stops.{plainly}
-use Rattle.mr_ast.specs.declared.types.IntType.{IntType}
-use Rattle.mr_ast.specs.declared.types.Num.{Num}
-use Rattle.mr_ast.specs.declared.types.Tree.{Tree}
+use Rattle.mr_eval.proofs.Common.{◌≡◌, ℕ, List, [], ◌∷◌, Bool, true, false, refl, ap, ◌∙◌, if◌then◌else◌, plainly, IntType, Num, Tree, Pointer, InvalidDiscriminant, same_num, Memory, Refused, Went, on, run, on_same, run_bind, ReadScript, Seen, reading, behind, case_search, numbered, searched, chosen_number, found_number, read_number}
 use Rattle.mr_ast.specs.declared.types.Tree.TheVariants as tree
-use Rattle.mr_base.specs.declared.byte.Pointer.{Pointer}
-use Rattle.mr_base.specs.declared.reason.Reason.TheVariants.{InvalidDiscriminant}
-use Rattle.mr_layout.specs.EnumRules.{same_num}
-use Rattle.mr_mem.specs.Memory.{Memory}
-use Rattle.mr_base.specs.Script.{Refused, Went, on, run}
-use Rattle.mr_base.proofs.ScriptRuns.{on_same, run_bind}
-use Rattle.mr_eval.specs.Reads.{ReadScript, Seen, reading}
-use Rattle.mr_eval.specs.Moves.{behind}
-use Rattle.mr_eval.specs.Typed.{case_search, numbered, searched}
-use Rattle.mr_eval.specs.Evaluated.{chosen_number, found_number, read_number}
 use Rattle.mr_eval.proofs.DiscSafe.{search_branch, search_invalid, search_known, searches}
 
 pub found_known : (m : Memory) (n : Num) (p : Pointer) (seen : Seen) → found_number m (tree.Known n) p seen ≡ Went n seen

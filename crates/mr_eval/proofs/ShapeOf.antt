@@ -1,46 +1,20 @@
 -- Values that evaluation makes have the shapes of their types.
-use Rattle.std.proofs.Common.{◌≡◌, ℕ, zero, suc, ◌+◌, ◌-◌, ◌*◌, ◌^◌, ◌≤◌, List, [], ◌∷◌, Option, None, Some, Bool, true, false, length, refl, sym, ap, subst, ◌∙◌, arith}
-use Rattle.std.specs.Prelude.{not, ◌&&◌, ◌==◌, nat_lt, nat_le, slice_get, if◌then◌else◌}
-use Rattle.std.specs.Option.{option_map}
+use Rattle.mr_eval.proofs.Common.{◌≡◌, ℕ, zero, suc, ◌+◌, ◌-◌, ◌*◌, ◌^◌, ◌≤◌, List, [], ◌∷◌, Option, None, Some, Bool, true, false, length, refl, sym, ap, subst, ◌∙◌, arith, not, ◌&&◌, ◌==◌, nat_lt, nat_le, slice_get, if◌then◌else◌, option_map, length-replicate, same_Some, and_parts, is_signed, is_fitting, int_size, IntType, U8, U16, U32, U64, U128, I8, I16, I32, I64, I128, Num, Ty, out-Ty, roll-Ty, Ty-F, Variant, same_num, size_of, TypeOk, union_ok, with_range_replaced, Val, chunks_in, bits_of_number, blank, encoding_of, Bytes, has_shape, length-encoding_of, has_int, has_tuple, is_type, is_union_layer, field_in, variant_among, variant_in, type_made, same_type_equal, union_layer}
 use Rattle.std.specs.Cmp.Derive.{both_true}
 use Rattle.std.proofs.lemmas.Bool.Decides.{nat_tests}
-use Rattle.std.proofs.lemmas.List.{length-replicate}
-use Rattle.std.proofs.lemmas.Option.{same_Some}
-use Rattle.std.proofs.lemmas.Bool.{and_parts}
-use Rattle.mr_ast.specs.Integers.{is_signed, is_fitting, int_size}
-use Rattle.mr_ast.specs.declared.types.IntType.{IntType}
-use Rattle.mr_ast.specs.declared.types.IntType.TheVariants.{U8, U16, U32, U64, U128, I8, I16, I32, I64, I128}
-use Rattle.mr_ast.specs.declared.types.Num.{Num}
-use Rattle.mr_ast.specs.declared.types.Ty.{Ty, out-Ty, roll-Ty}
-use Rattle.mr_ast.specs.declared.types.Ty.TheVariants as ty
-use Rattle.mr_ast.specs.declared.types.Ty.TheOpen.{Ty-F}
-use Rattle.mr_ast.specs.declared.types.Variant.{Variant}
-use Rattle.mr_layout.specs.EnumRules.{same_num}
 use Rattle.mr_layout.proofs.PartFacts.{FieldsOk, PartOk}
-use Rattle.mr_layout.specs.Sizes.{size_of}
-use Rattle.mr_layout.specs.TypeOk.{TypeOk}
-use Rattle.mr_layout.proofs.WellFormed.{UnionOk, union_ok}
+use Rattle.mr_layout.proofs.WellFormed.{UnionOk}
 use Rattle.mr_base.specs.declared.byte.AbstractByte.TheVariants.{Uninit}
-use Rattle.mr_runs.specs.Ranges.{with_range_replaced}
 use Rattle.mr_runs.proofs.RangeLaws.{length-with_range_replaced}
-use Rattle.mr_value.specs.declared.val.Val.{Val}
-use Rattle.mr_value.specs.declared.val.Val.TheVariants as val
-use Rattle.mr_value.specs.Decode.{chunks_in}
-use Rattle.mr_value.specs.Discriminants.{bits_of_number}
-use Rattle.mr_value.specs.Encode.{blank, encoding_of}
-use Rattle.mr_value.specs.Numbers.{Bytes}
-use Rattle.mr_value.specs.Shape.{elements_pass, fields_have_shape, has_shape, variant_has_shape}
+use Rattle.mr_value.specs.Shape.{elements_pass, fields_have_shape, variant_has_shape}
 use Rattle.mr_base.proofs.Comparisons.{eq_test}
 use Rattle.mr_value.proofs.DecodeShape.{length-chunks_in}
-use Rattle.mr_value.proofs.EncodeLength.{length-encoding_of}
-use Rattle.mr_value.proofs.ShapeLaws.{has_array, has_enum, has_int, has_tuple, has_union}
+use Rattle.mr_value.proofs.ShapeLaws.{has_array, has_enum, has_union}
 use Rattle.mr_typing.specs.SameTypes.{same_type}
-use Rattle.mr_typing.specs.Operands.{fits_parts, fits_parts_layer, fits_union, fits_variant, is_type, is_union_layer, match_element, match_fields}
-use Rattle.mr_typing.specs.Types.{field_in, variant_among, variant_in}
-use Rattle.mr_ast.proofs.TypeInduction.{type_made}
-use Rattle.mr_typing.proofs.SameTypeLaws.{same_type_equal}
+use Rattle.mr_typing.specs.Operands.{fits_parts, fits_parts_layer, fits_union, fits_variant, match_element, match_fields}
 use Rattle.mr_eval.specs.Shapes.{HaveShapes}
-use Rattle.mr_eval.specs.Evaluation.{union_layer}
+use Rattle.mr_ast.specs.declared.types.Ty.TheVariants as ty
+use Rattle.mr_value.specs.declared.val.Val.TheVariants as val
 
 abbrev Layer : Type 0
 Layer = Ty-F Ty Variant

@@ -1,46 +1,19 @@
 -- The parts of a sound expression are sound.
-use Rattle.std.proofs.Common.{◌≡◌, ℕ, ◌<◌, true, List, [], ◌∷◌, Option, None, Some, length, drop, get_or, ◌+◌, sym, ap, subst, ◌∙◌}
-use Rattle.std.specs.Prelude.{◌&&◌, is_some}
+use Rattle.mr_eval.proofs.Common.{◌≡◌, ℕ, ◌<◌, true, List, [], ◌∷◌, Option, None, Some, length, drop, get_or, ◌+◌, sym, ap, subst, ◌∙◌, ◌&&◌, is_some, IntType, Num, Ty, out-Ty, BinaryOp, UnaryOp, Place, Value, Named, is_shaped_place, is_shaped_value, drop_more, same_Some, and_parts, is_fitting, TypeOk, size_of, Memory, Went, has_shape, Val, is_type, is_union_layer, field_type, result_type, type_of_place, type_of_value, variant_type, same_type_equal, broken_in_place, broken_in_value, FieldShaped, valued, Surround, Seen, SoundPlace, SoundValue, SoundValues, Stands, eq_from}
 use Rattle.std.specs.List.{flat_map, list_all}
-use Rattle.mr_ast.specs.declared.types.IntType.{IntType}
-use Rattle.mr_ast.specs.declared.types.Num.{Num}
-use Rattle.mr_ast.specs.declared.types.Ty.{Ty, out-Ty}
-use Rattle.mr_ast.specs.declared.expr.BinaryOp.{BinaryOp}
-use Rattle.mr_ast.specs.declared.expr.UnaryOp.{UnaryOp}
-use Rattle.mr_ast.specs.declared.expr.Place.{Place}
-use Rattle.mr_ast.specs.declared.expr.Value.{Value}
+use Rattle.mr_ast.specs.ShapedTypes.{fits_u64, is_shaped_num, is_shaped_type}
+use Rattle.mr_ast.proofs.ShapedLaws.{shaped_addr_of, shaped_binary, shaped_cast, shaped_deref, shaped_disc, shaped_field_place, shaped_index_place, shaped_load, shaped_transmute, shaped_tuple, shaped_unary, shaped_union, shaped_variant, shaped_variant_place}
+use Rattle.mr_typing.specs.Operands.{same_size}
+use Rattle.mr_typing.proofs.ExprWalk.{result_there}
+use Rattle.mr_typing.proofs.NothingLaws.{both_nothing}
+use Rattle.mr_typing.proofs.TypedLaws.{typed_addr_of, typed_binary, typed_cast, typed_deref, typed_disc, typed_field, typed_index, typed_int, typed_load, typed_transmute, typed_tuple, typed_unary, typed_union, typed_variant, typed_variant_place}
+use Rattle.mr_eval.specs.Sound.{around}
 use Rattle.mr_ast.specs.declared.expr.Place.TheVariants as place
 use Rattle.mr_ast.specs.declared.expr.Value.TheVariants as value
-use Rattle.mr_ast.specs.ShapedTypes.{fits_u64, is_shaped_num, is_shaped_type}
-use Rattle.mr_ast.specs.ShapedValues.{Named, is_shaped_place, is_shaped_value}
-use Rattle.mr_ast.proofs.ShapedLaws.{shaped_addr_of, shaped_binary, shaped_cast, shaped_deref, shaped_disc, shaped_field_place, shaped_index_place, shaped_load, shaped_transmute, shaped_tuple, shaped_unary, shaped_union, shaped_variant, shaped_variant_place}
-use Rattle.std.proofs.lemmas.List.{drop_more}
-use Rattle.std.proofs.lemmas.Option.{same_Some}
-use Rattle.std.proofs.lemmas.Bool.{and_parts}
-use Rattle.mr_ast.specs.Integers.{is_fitting}
-use Rattle.mr_layout.specs.TypeOk.{TypeOk}
-use Rattle.mr_layout.specs.Sizes.{size_of}
-use Rattle.mr_mem.specs.Memory.{Memory}
-use Rattle.mr_base.specs.Script.{Went}
-use Rattle.mr_value.specs.Shape.{has_shape}
-use Rattle.mr_value.specs.declared.val.Val.{Val}
-use Rattle.mr_typing.specs.Operands.{is_type, is_union_layer, same_size}
-use Rattle.mr_typing.specs.Types.{field_type, result_type, type_of_place, type_of_value, variant_type}
-use Rattle.mr_typing.proofs.ExprWalk.{result_there}
-use Rattle.mr_typing.proofs.SameTypeLaws.{same_type_equal}
 use Rattle.mr_eval.proofs.ExprSafe.{place_safe, value_safe}
-use Rattle.mr_typing.proofs.NothingLaws.{both_nothing}
-use Rattle.mr_typing.specs.Broken.{broken_in_place, broken_in_value}
-use Rattle.mr_typing.proofs.TypedLaws.{typed_addr_of, typed_binary, typed_cast, typed_deref, typed_disc, typed_field, typed_index, typed_int, typed_load, typed_transmute, typed_tuple, typed_unary, typed_union, typed_variant, typed_variant_place}
-use Rattle.mr_eval.specs.Answers.{FieldShaped}
-use Rattle.mr_eval.specs.Evaluated.{valued}
-use Rattle.mr_eval.specs.Evaluation.{Surround}
-use Rattle.mr_eval.specs.Reads.{Seen}
 use Rattle.mr_eval.proofs.FoundFits.{comes_to}
 use Rattle.mr_eval.proofs.OperatorsSafe.{Shaped}
 use Rattle.mr_eval.proofs.SafeRuns.{value_comes}
-use Rattle.mr_eval.specs.Sound.{SoundPlace, SoundValue, SoundValues, Stands, around}
-use Rattle.mr_base.proofs.Comparisons.{eq_from}
 
 -- a type that is there and is this one
 is_type_there : (o : Option Ty) (u : Ty) → is_type o u ≡ true → o ≡ Some u

@@ -1,19 +1,10 @@
 -- The equations of `targets_of`, one for each kind of type.
-use Rattle.std.proofs.Common.{◌≡◌, ℕ, List, [], ◌∷◌, ◌++◌, Bool, true, false, ◌≤◌, length, drop, map, append-nil, refl, sym, ap, ◌∙◌}
-use Rattle.std.specs.Prelude.{if◌then◌else◌}
-use Rattle.std.proofs.lemmas.List.{drop_all}
-use Rattle.mr_ast.specs.declared.types.IntType.{IntType}
-use Rattle.mr_ast.specs.declared.types.Num.{Num}
-use Rattle.mr_ast.specs.declared.types.Tree.{Tree}
-use Rattle.mr_ast.specs.declared.types.Ty.{Ty, roll-Ty}
-use Rattle.mr_ast.specs.declared.types.Ty.TheVariants as ty
-use Rattle.mr_ast.specs.declared.types.Ty.TheOpen.{Ty-F, Variant-F}
+use Rattle.mr_eval.proofs.Common.{◌≡◌, ℕ, List, [], ◌∷◌, ◌++◌, Bool, true, false, ◌≤◌, length, drop, map, append-nil, refl, sym, ap, ◌∙◌, if◌then◌else◌, drop_all, IntType, Num, Tree, Ty, roll-Ty, Ty-F, Variant, same_num, Val, out-Val, Val-F, Targets, element_targets, targets_of, targets_of_fields, targets_of_variant}
+use Rattle.mr_ast.specs.declared.types.Ty.TheOpen.{Variant-F}
 use Rattle.mr_ast.specs.declared.types.Ty.TheFolds.{map-Ty, para-Variant, para-roll-Ty, para-roll-Variant}
-use Rattle.mr_ast.specs.declared.types.Variant.{Variant, out-Variant}
-use Rattle.mr_layout.specs.EnumRules.{same_num}
-use Rattle.mr_value.specs.declared.val.Val.{Val, out-Val}
-use Rattle.mr_value.specs.declared.val.Val.TheOpen.{Val-F}
-use Rattle.mr_eval.specs.Typed.{Finder, Targets, element_targets, field_targets, in_parts, in_variant, pointed, targets_of, targets_of_fields, targets_of_variant, targets_step, variant_targets}
+use Rattle.mr_ast.specs.declared.types.Variant.{out-Variant}
+use Rattle.mr_eval.specs.Typed.{Finder, field_targets, in_parts, in_variant, pointed, targets_step, variant_targets}
+use Rattle.mr_ast.specs.declared.types.Ty.TheVariants as ty
 
 abbrev step : Ty-F (Ty × Finder) (Variant × Finder) → Finder
 step layer v = targets_step layer (out-Val v)

@@ -1,9 +1,7 @@
 -- The widths of the integer types, and what lies above them in 128 bits.
-use Rattle.std.proofs.Common.{◌≡◌, ℕ, ◌+◌, ◌-◌, ◌*◌, ◌%◌, ◌^◌, refl, sym, ap, ◌∙◌, pow-add}
+use Rattle.mr_eval.proofs.Common.{◌≡◌, ℕ, ◌+◌, ◌-◌, ◌*◌, ◌%◌, ◌^◌, refl, sym, ap, ◌∙◌, IntType, U8, U16, U32, U64, U128, I8, I16, I32, I64, I128, bits_of}
+use Rattle.std.proofs.Common.{pow-add}
 use Rattle.std.proofs.Math.Pow.{mod-mod-pow}
-use Rattle.mr_ast.specs.declared.types.IntType.{IntType}
-use Rattle.mr_ast.specs.declared.types.IntType.TheVariants.{U8, U16, U32, U64, U128, I8, I16, I32, I64, I128}
-use Rattle.mr_ast.specs.Integers.{bits_of}
 
 pub spare_and_width : (t : IntType) → (128 - bits_of t) + bits_of t ≡ 128
 spare_and_width U8 = refl

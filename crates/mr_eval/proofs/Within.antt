@@ -1,19 +1,9 @@
 -- What the operators give are bits of the type: they are below 2 to its width.
-use Rattle.std.proofs.Common.{◌≡◌, ℕ, ◌-◌, ◌^◌, ◌<◌, Bool, true, false, cond, subst, arith, pow_pos, mod-lt, Result, Ok, Err, lt_of_le_of_lt}
-use Rattle.std.specs.Prelude.{ℤ, pos, negsuc, int_div, int_rem, ◌&&◌}
-use Rattle.std.specs.Ordering.{int_eq}
+use Rattle.mr_eval.proofs.Common.{◌≡◌, ℕ, ◌-◌, ◌^◌, ◌<◌, Bool, true, false, cond, subst, arith, pow_pos, Result, Ok, Err, ℤ, pos, negsuc, int_div, int_rem, ◌&&◌, int_eq, Reason, Overflow, ZeroDivisor, DivOverflow, ShiftAmount, IntType, bits_of, least_of, ArithOp, ShiftOp, value_of, bits_for, if_quotient_defined, arith_of, overflowing_of, shift_of}
+use Rattle.std.proofs.Common.{mod-lt, lt_of_le_of_lt}
 use Rattle.std.proofs.lemmas.Nat.{or_lt, xor_lt, and_le_l}
-use Rattle.mr_base.specs.declared.reason.Reason.{Reason}
-use Rattle.mr_base.specs.declared.reason.Reason.TheVariants.{Overflow, ZeroDivisor, DivOverflow, ShiftAmount}
-use Rattle.mr_ast.specs.declared.types.IntType.{IntType}
-use Rattle.mr_ast.specs.Integers.{bits_of, least_of}
-use Rattle.mr_eval.specs.declared.arithmetic.ArithOp.{ArithOp}
 use Rattle.mr_eval.specs.declared.arithmetic.ArithOp.TheVariants.{Add, Sub, Mul, Div, Rem, And, Or, Xor, AddUnchecked, SubUnchecked, MulUnchecked}
-use Rattle.mr_eval.specs.declared.shifts.ShiftOp.{ShiftOp}
 use Rattle.mr_eval.specs.declared.shifts.ShiftOp.TheVariants.{Shl, Shr, ShlUnchecked, ShrUnchecked}
-use Rattle.mr_eval.specs.Numbers.{value_of, bits_for}
-use Rattle.mr_eval.specs.Arith.{if_quotient_defined, arith_of, overflowing_of}
-use Rattle.mr_eval.specs.Shift.{shift_of}
 use Rattle.mr_eval.specs.Cast.{invert_of}
 
 -- so are those of a cast and of a negation, which are `bits_for` a number

@@ -1,11 +1,5 @@
 -- The order of two steps depends on the steps up to the later one alone.
-use Rattle.std.proofs.Common.{◌≡◌, ℕ, ◌<◌, List, true, sym, ◌∙◌, ap, arith}
-use Rattle.mr_base.specs.Accesses.{some_race}
-use Rattle.mr_event.specs.Footprint.{Footprint}
-use Rattle.mr_event.specs.Footprints.{depends, wakes}
-use Rattle.mr_event.specs.Order.{step_at, thread_at, Sync, Races, Edge, HappensBefore}
-use Rattle.mr_event.specs.Order.Edge.{in_thread, woken, dependent}
-use Rattle.mr_event.specs.Order.HappensBefore.{edge, chain}
+use Rattle.mr_event.proofs.Common.{◌≡◌, ℕ, ◌<◌, List, true, sym, ◌∙◌, ap, arith, some_race, Footprint, depends, wakes, step_at, thread_at, Sync, Races, Edge, HappensBefore, in_thread, woken, dependent, edge, chain}
 use Rattle.mr_event.proofs.Ordered.{HappensBefore-before}
 
 -- the two runs have the same steps below n

@@ -1,6 +1,5 @@
 -- Footprints that are alike are equal.
-use Rattle.std.proofs.Common.{◌≡◌, ap}
-use Rattle.mr_event.specs.Footprint.{Footprint}
+use Rattle.mr_event.proofs.Common.{◌≡◌, ap, Footprint}
 use Rattle.mr_event.specs.Likeness.{AreAlike}
 
 pub alike_equal : (f g : Footprint) → AreAlike f g → f ≡ g

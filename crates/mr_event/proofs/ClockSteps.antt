@@ -1,11 +1,6 @@
 -- The clock of a step, made from the last step before it down.
-use Rattle.std.proofs.Common.{◌≡◌, ℕ, suc, ◌<◌, ◌≤◌, ◌+◌, List, length, get_or, refl, sym, ◌∙◌, ap, subst, inl, inr, ◌⊎◌, arith}
-use native.Mathlib.Decide.{ℕ_discrete, dec_lt}
-use Rattle.mr_event.specs.Footprint.{Footprint}
-use Rattle.mr_event.specs.Clocks.{AreSlots, IsBelow, IsClock, Follows}
-use Rattle.mr_event.specs.Order.{Edge, HappensBefore}
-use Rattle.mr_event.specs.Order.Edge.{in_thread}
-use Rattle.mr_event.specs.Order.HappensBefore.{edge, chain}
+use Rattle.mr_event.proofs.Common.{◌≡◌, ℕ, suc, ◌<◌, ◌≤◌, ◌+◌, List, length, get_or, refl, sym, ◌∙◌, ap, subst, inl, inr, ◌⊎◌, arith, ℕ_discrete, dec_lt, Footprint, IsClock, Follows, Edge, HappensBefore, in_thread, edge, chain}
+use Rattle.mr_event.specs.Clocks.{AreSlots, IsBelow}
 use Rattle.mr_event.proofs.Ordered.{first_edge, Edge-before, HappensBefore-before}
 
 -- the clock of step k as far as the steps from i on have been looked at: what lies below it happens before k, and with

@@ -1,15 +1,9 @@
 -- Runs, and what is said of them, computed.
-use Rattle.std.proofs.Common.{◌≡◌, ℕ, List, [], ◌∷◌, true, false, map, refl}
-use Rattle.mr_base.specs.declared.access.Access.{Access}
-use Rattle.mr_base.specs.Accesses.{some_conflict, some_race}
+use Rattle.mr_event.proofs.Common.{◌≡◌, ℕ, List, [], ◌∷◌, true, false, refl, Access, some_conflict, some_race, Footprint, Pair, depends, wakes, no_step, places, step_at, has_edge, happens_before, race_pair, predicted}
+use Rattle.std.proofs.Common.{map}
 use Rattle.mr_base.specs.declared.thread.Event.{Event}
 use Rattle.mr_base.specs.declared.thread.Event.TheVariants.{Quiet, CreateLock, Acquire, Release, Spawn, Join}
-use Rattle.mr_event.specs.Footprint.{Footprint}
-use Rattle.mr_event.specs.declared.footprint.Pair.{Pair}
-use Rattle.mr_event.specs.Footprints.{depends, wakes}
 use Rattle.mr_event.specs.Kept.{kept}
-use Rattle.mr_event.specs.Order.{no_step, places, step_at}
-use Rattle.mr_event.specs.Predicted.{has_edge, happens_before, race_pair, predicted}
 
 abbrev pub load : ℕ → Access
 load addr = record { store = false; atomic = false; addr = addr; len = 4 }

@@ -1,15 +1,10 @@
 -- A bare step that completes, taken apart and put together, and what it makes of the list of threads.
-use Rattle.std.proofs.Common.{◌≡◌, ◌≢◌, ℕ, ◌<◌, refl, sym, ap, ◌∙◌, append-nil, List, [], ◌∷◌, ◌++◌, length, arith, Option, Some, None}
-use Rattle.std.specs.Prelude.{slice_get, slice_set}
-use Rattle.std.proofs.lemmas.List.{length-set, set-append_left, set_comm}
-use Rattle.mr_base.specs.Script.{◌>>=◌, Outcome, Went, Refused, Broken, on, run}
+use Rattle.mr_exchange.proofs.Common.{◌≡◌, ◌≢◌, ℕ, ◌<◌, refl, sym, ap, ◌∙◌, append-nil, List, [], ◌∷◌, ◌++◌, length, arith, Option, Some, None, slice_get, slice_set, length-set, ◌>>=◌, Outcome, Went, Broken, on, run, goes_on, Aborts, Completed, Exits, Flow, Goes, Language, Needs, State, Thread, bare, needs, thread_of, Notes, start_notes, Shared, StepScript, answer, set_there}
+use Rattle.std.proofs.lemmas.List.{set-append_left, set_comm}
+use Rattle.mr_base.specs.Script.{Refused}
 use Rattle.mr_base.proofs.ScriptRuns.{run_bind}
-use Rattle.mr_base.proofs.ScriptSwaps.{goes_on}
-use Rattle.mr_start.specs.PlanMachine.{Aborts, Completed, Exits, Flow, Goes, Language, Needs, Plan, State, Thread, acted, bare, needed, needs, needs_of, settle, settled, started_threads, thread_of}
-use Rattle.mr_start.specs.PlanNotes.{Notes, start_notes}
-use Rattle.mr_start.specs.PlanQueries.{Shared, StepScript, answer}
+use Rattle.mr_start.specs.PlanMachine.{Plan, acted, needed, needs_of, settle, settled, started_threads}
 use Rattle.mr_start.proofs.PlanRooms.{in_front}
-use Rattle.mr_base.proofs.Lists.{set_there}
 
 -- ---- the list of threads
 

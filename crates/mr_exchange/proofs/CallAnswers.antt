@@ -1,15 +1,10 @@
 -- What each call on locks and threads comes to, by what the tables say.
-use Rattle.std.proofs.Common.{◌≡◌, ℕ, refl, sym, ap, ◌∙◌, Bool, true, false, cond, not, Option, Some, None, Result, Ok, Err}
-use Rattle.std.specs.Prelude.{◌==◌, slice_get, slice_set}
-use Rattle.std.proofs.lemmas.Bool.{not-true, not_from_false}
+use Rattle.mr_exchange.proofs.Common.{◌≡◌, ℕ, refl, sym, ap, ◌∙◌, Bool, true, false, cond, not, Option, Some, None, Result, Ok, Err, ◌==◌, slice_get, slice_set, not-true, Acquire, Join, Release, Enabled, Outcome, Went, Broken, Tables, any_waits, handed, holding, on_lock, Notes, Shared, note, tables_of, woke}
+use Rattle.std.proofs.lemmas.Bool.{not_from_false}
 use Rattle.mr_base.specs.declared.reason.Reason.{Reason}
 use Rattle.mr_base.specs.declared.reason.Reason.TheVariants.{NotHolder, UnknownLock}
-use Rattle.mr_base.specs.declared.thread.Event.TheVariants.{Acquire, Join, Release}
-use Rattle.mr_base.specs.declared.thread.Status.TheVariants.{Enabled}
-use Rattle.mr_base.specs.Script.{Outcome, Went, Broken}
-use Rattle.mr_start.specs.SyncTables.{Tables, any_waits, awaiting, handed, holding, on_lock, trying, waits}
-use Rattle.mr_start.specs.PlanNotes.{Notes}
-use Rattle.mr_start.specs.PlanQueries.{Shared, giving, going, note, tables_of, telling, with_tables, woke}
+use Rattle.mr_start.specs.SyncTables.{awaiting, trying, waits}
+use Rattle.mr_start.specs.PlanQueries.{giving, going, telling, with_tables}
 
 -- ---- tests
 

@@ -1,28 +1,17 @@
 -- The allocations of calls and returns: a call makes those that it asked for, and the end of a function makes none.
-use Rattle.std.proofs.Common.{◌≡◌, ℕ, refl, sym, subst, List, [], ◌∷◌, ◌++◌, append-nil, append_assoc, Bool, true, false, Option, Some, None}
-use Rattle.std.specs.Prelude.{if◌then◌else◌}
-use Rattle.mr_base.specs.Stops.{plainly}
+use Rattle.mr_exchange.proofs.Common.{◌≡◌, ℕ, refl, sym, subst, List, [], ◌∷◌, ◌++◌, append-nil, append_assoc, Bool, true, false, Option, Some, None, if◌then◌else◌, plainly, Function, Ty, Pointer, size_of, Val, Done, Undefined, IllFormed, ◌>>=◌, reading_part, pointer_of_value, enter, kept_types, resume, return_from, storage_asks, unwind, Look, Stack, scene_in, addresses}
 use Rattle.mr_ast.specs.declared.expr.Value.{Value}
 use Rattle.mr_ast.specs.declared.program.BlockName.{BlockName}
-use Rattle.mr_ast.specs.declared.program.Function.{Function}
 use Rattle.mr_ast.specs.declared.program.Local.{Local}
-use Rattle.mr_ast.specs.declared.types.Ty.{Ty}
-use Rattle.mr_base.specs.declared.byte.Pointer.{Pointer}
 use Rattle.mr_base.specs.declared.reason.Reason.TheVariants.{MainReturned}
-use Rattle.mr_layout.specs.Sizes.{size_of}
-use Rattle.mr_value.specs.declared.val.Val.{Val}
 use Rattle.mr_start.specs.TypingWalk.{begins_regular}
-use Rattle.mr_base.specs.Script.{Done, Undefined, IllFormed, ◌>>=◌}
 use Rattle.mr_start.specs.EvalEvaluation.{value_script}
-use Rattle.mr_start.specs.EvalMemoryQueries.{reading_part}
-use Rattle.mr_start.specs.EvalOperators.{pointer_of_value}
-use Rattle.mr_exchange.proofs.PlanQuietRuns.{reading_quiet}
-use Rattle.mr_start.specs.FrameCalls.{Targets, allocate_each, behind_first, enter, enter_at, enter_with, free_each, give_result, give_to, is_main, kept_types, leave, local_type, resume, return_from, return_value, storage_asks, store_each, targets_of, unwind, unwind_in, unwind_to}
+use Rattle.mr_start.specs.FrameCalls.{Targets, allocate_each, behind_first, enter_at, enter_with, free_each, give_result, give_to, is_main, leave, local_type, return_value, store_each, targets_of, unwind_in, unwind_to}
 use Rattle.mr_start.specs.FrameChanges.{free_storage, store}
-use Rattle.mr_start.specs.FrameFrames.{Frame, Look, Stack, scene_in}
+use Rattle.mr_start.specs.FrameFrames.{Frame}
 use Rattle.mr_start.specs.FrameSites.{Site}
 use Rattle.mr_start.proofs.FrameQuietChanges.{store_quiet, stores_quiet}
-use Rattle.mr_exchange.specs.Meets.{addresses}
+use Rattle.mr_exchange.proofs.PlanQuietRuns.{reading_quiet}
 use Rattle.mr_exchange.proofs.Marks.{NewRanges}
 use Rattle.mr_exchange.proofs.Parts.{Makes, makes_behind, makes_then}
 

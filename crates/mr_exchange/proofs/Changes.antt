@@ -1,19 +1,6 @@
 -- The ways in which a query changes what is shared and what is noted.
-use Rattle.std.proofs.Common.{◌≡◌, ℕ, ◌<◌, refl, List, [], ◌∷◌, ◌++◌, length, true, false, Option, Some, None, Bool}
-use Rattle.std.specs.Prelude.{slice_get, slice_set}
-use Rattle.std.proofs.lemmas.Option.{slice_get_within}
-use Rattle.mr_base.specs.declared.thread.Event.TheVariants.{Acquire, CreateLock, Join, Release, Spawn}
-use Rattle.mr_base.specs.declared.thread.Status.{Status}
-use Rattle.mr_base.specs.declared.thread.Status.TheVariants.{Enabled, OnJoin, OnLock}
-use Rattle.mr_mem.specs.Memory.{Memory}
-use Rattle.mr_base.specs.Script.{Done, Undefined, IllFormed, Ask, Went, run}
-use Rattle.mr_base.proofs.ScriptSwaps.{goes_on}
-use Rattle.mr_start.specs.SyncTables.{any_waits, handed, joiners, over}
+use Rattle.mr_exchange.proofs.Common.{◌≡◌, ℕ, ◌<◌, refl, List, [], ◌∷◌, ◌++◌, length, true, false, Option, Some, None, Bool, slice_get, slice_set, slice_get_within, Acquire, CreateLock, Join, Release, Spawn, Status, Enabled, OnJoin, OnLock, Memory, Done, Undefined, IllFormed, Ask, Went, run, goes_on, any_waits, handed, joiners, over, Tally, Notes, Await, Finish, NewLock, OfMemory, Print, Query, Reply, Shared, Start, StepScript, TryLock, Unlock, Waiting, answer, blocked, in_shared, note, tables_of, woke, at_outcome}
 use Rattle.mr_start.specs.PlanEvalMemoryQueries.{MemoryQuery, MemoryReply, memory_answer}
-use Rattle.mr_start.specs.PlanEvalTally.{Tally}
-use Rattle.mr_start.specs.PlanNotes.{Notes}
-use Rattle.mr_start.specs.PlanQueries.{Await, Finish, NewLock, OfMemory, Print, Query, Reply, Shared, Start, StepScript, TryLock, Unlock, Waiting, answer, blocked, in_shared, note, tables_of, woke}
-use Rattle.mr_start.proofs.PlanWentLaws.{at_outcome}
 use Rattle.mr_exchange.proofs.CallAnswers.{IsHeld, handing, holds, joining, looking, not_broken, taking, unlocked_free, unlocked_given}
 use Rattle.mr_exchange.proofs.Statuses.{after_end, waits_lock}
 

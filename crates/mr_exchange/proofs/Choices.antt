@@ -1,15 +1,8 @@
 -- The two choices of steps that serve as a witness.
-use Rattle.std.proofs.Common.{◌≡◌, ℕ, ◌<◌, List, true, refl, subst, inl, inr, arith}
-use native.Mathlib.Decide.{ℕ_discrete}
-use Rattle.std.specs.Prelude.{not}
-use Rattle.std.proofs.lemmas.Bool.{both_ways, eq-eqb, ne_eqb, eqb-true, cases_Bool, not-true, or_cases, and_parts, and_from, or_left, or_right}
-use Rattle.mr_event.specs.Footprint.{Footprint}
-use Rattle.mr_event.specs.Order.{HappensBefore, RacePair}
-use Rattle.mr_event.specs.Order.HappensBefore.{chain}
+use Rattle.mr_exchange.proofs.Common.{◌≡◌, ℕ, ◌<◌, List, true, refl, subst, inl, inr, arith, ℕ_discrete, not, both_ways, eq-eqb, ne_eqb, eqb-true, cases_Bool, not-true, and_parts, and_from, or_left, or_right, Footprint, HappensBefore, RacePair, chain, HappensBefore-before, IsFirstPair, Selects, short_keeps}
+use Rattle.std.proofs.lemmas.Bool.{or_cases}
 use Rattle.mr_event.specs.Predicted.{happens_before}
-use Rattle.mr_event.proofs.Ordered.{HappensBefore-before}
 use Rattle.mr_event.proofs.Tests.{happens_before_is, race_pair_is, any_range, any_range_at, not_false}
-use Rattle.mr_exchange.specs.Trace.{IsFirstPair, Selects, short_keeps}
 
 -- what does not come after i
 after_not : (run : List Footprint) (i k : ℕ) → (HappensBefore run i k → ⊥) → not (happens_before run i k) ≡ true

@@ -1,19 +1,11 @@
 -- How many footprints a run has.
-use Rattle.std.proofs.Common.{◌≡◌, ℕ, suc, ◌+◌, refl, sym, ◌∙◌, arith, ◌⊎◌, inl, inr, List, [], ◌∷◌, ◌++◌, length, Bool, true, false, not, Option, Some, None, length-append}
-use Rattle.mr_ast.specs.declared.program.Program.{Program}
-use Rattle.mr_sched.specs.declared.schedule.Entry.{Entry}
+use Rattle.mr_exchange.proofs.Common.{◌≡◌, ℕ, suc, ◌+◌, refl, sym, ◌∙◌, arith, ◌⊎◌, inl, inr, List, [], ◌∷◌, ◌++◌, length, Bool, true, false, not, Option, Some, None, Program, Entry, WellFormed, Bare, IllFormedStep, Stops, AreLegal, Config, after_bare, entry_fault, feet, foot_from, foot_of_bare, machine_step, stepped_from, IsLook, Look, IsSoundConfig, Own, thread_step, look_of, start_config, start_look, start_sound}
+use Rattle.std.proofs.Common.{length-append}
 use Rattle.mr_sched.specs.declared.schedule.Schedule.{Schedule}
-use Rattle.mr_start.specs.TypingWalk.{WellFormed}
-use Rattle.mr_exchange.specs.PlanMachine.{Bare, Completed, IllFormedStep, State, Stops, bare}
-use Rattle.mr_exchange.specs.PlanRuns.{AreLegal, Config, after_bare, entry_fault, feet, foot_from, foot_of_bare, has_rule, is_ill_formed, machine_step, stepped_from}
-use Rattle.mr_start.specs.FrameFits.{IsLook}
-use Rattle.mr_start.specs.FrameFrames.{Look}
-use Rattle.mr_start.specs.SoundState.{IsSoundConfig}
-use Rattle.mr_start.specs.Steps.{Own, thread_step}
+use Rattle.mr_exchange.specs.PlanMachine.{Completed, State, bare}
+use Rattle.mr_exchange.specs.PlanRuns.{has_rule, is_ill_formed}
 use Rattle.mr_start.proofs.RunSound.{entry_sound, legal_at}
 use Rattle.mr_start.specs.Runs.{Legal, steps_of}
-use Rattle.mr_start.specs.Start.{look_of, start_config}
-use Rattle.mr_start.proofs.StartSound.{start_look, start_sound}
 use Rattle.mr_exchange.specs.Counted.{LastStops, StopsAtLast, is_stop, stops_in}
 
 -- so many footprints are one for each of these entries, or one fewer where the last entry itself stops

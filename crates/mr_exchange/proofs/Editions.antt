@@ -1,19 +1,11 @@
 -- The accesses of a step, by edition: those of its evaluation are among them, they stay the same while the allocations
 -- that it freed are there, and they keep the machine's limits.
-use Rattle.std.proofs.Common.{◌≡◌, ℕ, zero, suc, ◌+◌, ◌≤◌, ◌^◌, refl, sym, ap, ap₂, ◌∙◌, List, [], ◌∷◌, ◌++◌, All, arith, Bool, true, false, Option, None, Some, Contains, length}
-use Rattle.std.specs.Prelude.{◌==◌, if◌then◌else◌}
-use Rattle.std.specs.FinMap as fin
-use Rattle.std.proofs.lemmas.Bool.{ne_eqb}
-use Rattle.std.proofs.lemmas.List.Elements.{All-append, All-cons, All-nil, Contains-append_left}
-use Rattle.mr_base.specs.declared.access.Access.{Access}
-use Rattle.mr_base.specs.declared.byte.AllocId.{AllocId}
-use Rattle.mr_start.specs.PlanEvalTally.{Tally}
-use Rattle.mr_event.specs.FootOk.{IsAccessOk}
-use Rattle.mr_event.specs.Footprint.{Footprint}
-use Rattle.mr_mem.specs.Memory.{Allocation, Memory, extent_of}
+use Rattle.mr_exchange.proofs.Common.{◌≡◌, ℕ, zero, suc, ◌+◌, ◌≤◌, ◌^◌, refl, sym, ap, ◌∙◌, List, [], ◌∷◌, ◌++◌, All, arith, Bool, true, false, Option, None, Some, Contains, length, ◌==◌, if◌then◌else◌, ne_eqb, All-append, All-cons, All-nil, Contains-append_left, Access, AllocId, Tally, IsAccessOk, Footprint, Allocation, Memory, Notes, accesses_in, event_of, foot_of, MemoryFacts}
+use Rattle.std.proofs.Common.{ap₂}
+use Rattle.mr_mem.specs.Memory.{extent_of}
 use Rattle.mr_start.specs.PlanLimits.{ArePlaced, IsPlaced}
-use Rattle.mr_start.specs.PlanNotes.{Notes, accesses_in, event_of, foot_of, whole_store, whole_stores}
-use Rattle.mr_start.proofs.PlanMemoryFacts.{MemoryFacts}
+use Rattle.mr_start.specs.PlanNotes.{whole_store, whole_stores}
+use Rattle.std.specs.FinMap as fin
 use Rattle.mr_exchange.proofs.ElementTests.{here, there}
 
 -- what evaluation accessed is accessed

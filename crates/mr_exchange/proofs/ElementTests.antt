@@ -1,9 +1,5 @@
 -- Elements of lists: in front of others, of a list that a function made, and those for which a fact or a test holds.
-use Rattle.std.proofs.Common.{◌≡◌, sym, ap, ◌∙◌, subst, List, [], ◌∷◌, ◌++◌, map, ◌⊎◌, inl, inr, Bool, false, Any, Contains}
-use Rattle.std.specs.List.{list_any}
-use Rattle.std.proofs.lemmas.Bool.{or_parts}
-use Rattle.std.proofs.lemmas.List.Elements.{Contains-append_cases, Contains-append_left, Contains-append_right, Contains-push}
-use Rattle.mr_start.proofs.PlanElementLaws.{Contains-nil, Contains-one}
+use Rattle.mr_exchange.proofs.Common.{◌≡◌, sym, ap, ◌∙◌, subst, List, [], ◌∷◌, ◌++◌, map, ◌⊎◌, inl, inr, Bool, false, Any, Contains, list_any, or_parts, Contains-append_cases, Contains-append_left, Contains-append_right, Contains-push, Contains-nil, Contains-one}
 
 -- ---- one element in front
 

@@ -1,21 +1,9 @@
 -- Neighbours in a run are exchanged, wherever they stand.
-use Rattle.std.proofs.Common.{◌≡◌, ◌≢◌, ℕ, suc, refl, sym, ◌∙◌, ap, subst, arith, List, [], ◌∷◌, ◌++◌, length, false}
-use Rattle.std.specs.Prelude.{None}
-use Rattle.mr_event.specs.Footprint.{Footprint}
-use Rattle.mr_event.specs.Footprints.{depends, wakes}
-use Rattle.mr_exchange.specs.Trace.{AreIndependent}
-use Rattle.mr_sched.specs.declared.schedule.Entry.{Entry}
-use Rattle.mr_start.specs.TypingWalk.{WellFormed}
+use Rattle.mr_exchange.proofs.Common.{◌≡◌, ◌≢◌, ℕ, suc, refl, sym, ◌∙◌, ap, subst, arith, List, [], ◌∷◌, ◌++◌, length, false, None, Footprint, depends, wakes, AreIndependent, Entry, WellFormed, foot_in, IsLook, Look, SoundState, Own, thread_step, IsSane, SwapLaw}
 use Rattle.mr_exchange.specs.PlanLegal.{state_fault}
 use Rattle.mr_exchange.specs.PlanMachine.{Completed, State, bare}
 use Rattle.mr_exchange.specs.PlanNotes.{Notes}
-use Rattle.mr_exchange.specs.PlanRuns.{foot_in}
-use Rattle.mr_start.specs.FrameFits.{IsLook}
-use Rattle.mr_start.specs.FrameFrames.{Look}
-use Rattle.mr_start.specs.SoundState.{SoundState}
-use Rattle.mr_start.specs.Steps.{Own, thread_step}
 use Rattle.mr_start.proofs.BareKept.{SoundBare, bare_sound}
-use Rattle.mr_exchange.specs.Swap.{IsSane, SwapLaw}
 use Rattle.mr_exchange.specs.Exchange.{Done, Leads, done}
 
 -- what a step shows that noted this, and has this footprint

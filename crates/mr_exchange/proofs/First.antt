@@ -1,12 +1,9 @@
 -- What the list of predicted races says of the first pair.
-use Rattle.std.proofs.Common.{◌≡◌, ℕ, suc, zero, ◌<◌, List, [], ◌∷◌, length, get_or, subst, ap, arith}
-use Rattle.std.specs.Prelude.{Any}
-use Rattle.mr_event.specs.Footprint.{Footprint}
+use Rattle.mr_exchange.proofs.Common.{◌≡◌, ℕ, suc, zero, ◌<◌, List, [], ◌∷◌, length, get_or, subst, ap, arith, Any, Footprint, RacePair, IsFirstPair}
 use Rattle.mr_event.specs.declared.footprint.Pair.{Pair}
-use Rattle.mr_event.specs.Order.{RacePair, IsGreatestPartner, IsPredicted, HasNoRace}
+use Rattle.mr_event.specs.Order.{IsGreatestPartner, IsPredicted, HasNoRace}
 use Rattle.mr_event.specs.Predicted.{predicted}
 use Rattle.mr_event.proofs.Tests.{predicted_is}
-use Rattle.mr_exchange.specs.Trace.{IsFirstPair}
 
 earlier_none : (run : List Footprint) (p : Pair) (rest : List Pair) → IsPredicted run (p ∷ rest) → (a b : ℕ) → b < p.second → RacePair run a b → ⊥
 earlier_none run p rest h a b lt r = by (h.complete a b (let within : p.second < length run = h.within 0 p (omega arith) in omega arith) r)

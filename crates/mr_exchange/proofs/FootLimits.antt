@@ -1,25 +1,12 @@
 -- The footprints of a program's runs keep the machine's limits.
-use Rattle.std.proofs.Common.{◌≡◌, ℕ, refl, sym, subst, List, [], ◌∷◌, All, Option, Some, None}
-use Rattle.std.proofs.lemmas.List.Elements.{All-append, All-cons, All-nil}
-use Rattle.std.proofs.lemmas.Option.{same_Some}
-use Rattle.mr_ast.specs.declared.program.Program.{Program}
-use Rattle.mr_event.specs.FootOk.{IsFootOk}
-use Rattle.mr_sched.specs.declared.schedule.Entry.{Entry}
+use Rattle.mr_exchange.proofs.Common.{◌≡◌, ℕ, refl, sym, subst, List, [], ◌∷◌, All, Option, Some, None, All-append, All-cons, All-nil, same_Some, Program, IsFootOk, Entry, WellFormed, Bare, IllFormedStep, Stops, AreLegal, Config, after_bare, entry_fault, feet, foot_from, foot_in, foot_of_bare, machine_step, stepped_from, IsLook, Look, IsSoundConfig, SoundState, Own, thread_step, look_of, start_config, start_look, start_sound}
 use Rattle.mr_sched.specs.declared.schedule.Schedule.{Schedule}
-use Rattle.mr_start.specs.TypingWalk.{WellFormed}
 use Rattle.mr_exchange.specs.PlanLegal.{state_fault}
 use Rattle.mr_exchange.specs.PlanLimits.{AreWithin, IsWithin}
-use Rattle.mr_exchange.specs.PlanMachine.{Bare, Completed, IllFormedStep, State, Stops, bare}
-use Rattle.mr_exchange.specs.PlanRuns.{AreLegal, Config, after_bare, entry_fault, feet, foot_from, foot_in, foot_of_bare, machine_step, stepped_from}
-use Rattle.mr_start.specs.FrameFits.{IsLook}
-use Rattle.mr_start.specs.FrameFrames.{Look}
-use Rattle.mr_start.specs.SoundState.{IsSoundConfig, SoundState}
-use Rattle.mr_start.specs.Steps.{Own, thread_step}
+use Rattle.mr_exchange.specs.PlanMachine.{Completed, State, bare}
 use Rattle.mr_start.proofs.RunSound.{entry_sound, legal_at}
 use Rattle.mr_start.specs.Runs.{Legal, steps_of}
-use Rattle.mr_start.specs.Start.{look_of, start_config}
 use Rattle.mr_start.proofs.StartLimits.{start_within}
-use Rattle.mr_start.proofs.StartSound.{start_look, start_sound}
 use Rattle.mr_exchange.specs.Limits.{LimitLaw}
 use Rattle.mr_exchange.proofs.LimitLaw.{limit_law}
 use Rattle.mr_exchange.proofs.Sane.{sound_is_sane}

@@ -1,40 +1,26 @@
 -- The step of a frame makes the allocations that it asked for, and asks for no waiter.
-use Rattle.std.proofs.Common.{◌≡◌, ℕ, refl, List, [], ◌∷◌, Bool, true, false, Option, Some, None, Any, sym, subst}
-use Rattle.std.specs.Prelude.{if◌then◌else◌, slice_get}
-use Rattle.mr_base.specs.Stops.{plainly}
+use Rattle.mr_exchange.proofs.Common.{◌≡◌, ℕ, refl, List, [], ◌∷◌, Bool, true, false, Option, Some, None, Any, sym, subst, if◌then◌else◌, slice_get, plainly, Function, Ty, Pointer, align_of, size_of, Address, Val, Done, Undefined, ◌>>=◌, MemoryScript, reading_part, pointer_of_value, Plan, callee_of, enter, kept_types, resume, return_from, same_types, storage_asks, unwind, GoesOn, Look, Onward, Stack, scene_in, addresses, IsWaiter}
 use Rattle.mr_ast.specs.declared.expr.Place.{Place}
 use Rattle.mr_ast.specs.declared.expr.Value.{Value}
 use Rattle.mr_ast.specs.declared.program.BlockName.{BlockName}
-use Rattle.mr_ast.specs.declared.program.Function.{Function}
 use Rattle.mr_ast.specs.declared.program.Local.{Local}
 use Rattle.mr_ast.specs.declared.program.Stmt.{Stmt}
 use Rattle.mr_ast.specs.declared.program.Term.{Term}
-use Rattle.mr_ast.specs.declared.program.Term.TheVariants as term
 use Rattle.mr_ast.specs.declared.types.Num.{Num}
-use Rattle.mr_ast.specs.declared.types.Ty.{Ty}
-use Rattle.mr_base.specs.declared.byte.Pointer.{Pointer}
 use Rattle.mr_base.specs.declared.reason.Reason.TheVariants.{SignatureMismatch}
-use Rattle.mr_layout.specs.Sizes.{align_of, size_of}
-use Rattle.mr_sched.specs.declared.schedule.Ask.TheVariants.{Address}
-use Rattle.mr_value.specs.declared.val.Val.{Val}
-use Rattle.mr_base.specs.Script.{Done, Undefined, ◌>>=◌}
 use Rattle.mr_start.specs.EvalEvaluation.{place_script, value_script, values_script}
-use Rattle.mr_start.specs.EvalMemoryQueries.{MemoryScript, reading_part}
-use Rattle.mr_start.specs.EvalOperators.{pointer_of_value}
-use Rattle.mr_exchange.specs.PlanMachine.{CreatesNothing, Plan}
-use Rattle.mr_exchange.proofs.PlanElementLaws.{Any-one}
-use Rattle.mr_exchange.proofs.PlanQuietRuns.{reading_quiet}
-use Rattle.mr_start.specs.FrameCalls.{both_there, call, call_function, call_number, call_plan, callee_of, calling, enter, given_types, goes_to, kept_types, resume, return_from, same_types, storage_asks, unwind}
+use Rattle.mr_exchange.specs.PlanMachine.{CreatesNothing}
+use Rattle.mr_start.specs.FrameCalls.{both_there, call, call_function, call_number, call_plan, calling, given_types, goes_to}
 use Rattle.mr_start.specs.FrameChanges.{change, free_storage}
-use Rattle.mr_start.specs.FrameFrames.{GoesOn, Look, Onward, Stack, scene_in}
 use Rattle.mr_start.specs.FrameSites.{AtDo, AtStatement, AtTerminator, Due, Site, due_of, site_of}
 use Rattle.mr_start.specs.FrameSteps.{dead, frame_plan, live, live_at, next, plain, plan_at, plan_due, statement, terminator}
 use Rattle.mr_start.specs.FrameSwitches.{switched}
 use Rattle.mr_start.proofs.FrameQuietChanges.{change_quiet}
 use Rattle.mr_start.proofs.FrameStorageSteps.{Leads}
 use Rattle.mr_start.proofs.FrameStatements.{by_kind, changes}
-use Rattle.mr_exchange.specs.Meets.{addresses}
-use Rattle.mr_exchange.specs.Swap.{IsWaiter}
+use Rattle.mr_ast.specs.declared.program.Term.TheVariants as term
+use Rattle.mr_exchange.proofs.PlanElementLaws.{Any-one}
+use Rattle.mr_exchange.proofs.PlanQuietRuns.{reading_quiet}
 use Rattle.mr_exchange.proofs.Calls.{enters, frees, resumes, returns, unwinds}
 use Rattle.mr_exchange.proofs.Marks.{NewRanges}
 use Rattle.mr_exchange.proofs.Parts.{Makes, leads_behind, makes_behind, makes_then}

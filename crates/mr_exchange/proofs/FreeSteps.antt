@@ -1,21 +1,10 @@
 -- What a step is free of that doesn't depend on an earlier one, and wasn't woken by it: the tests, one by one.
-use Rattle.std.proofs.Common.{◌≡◌, ℕ, ◌+◌, refl, sym, ap, ◌∙◌, subst, List, arith, Some, true, false, Any, Contains}
-use Rattle.std.specs.Prelude.{◌&&◌, ◌||◌, ◌==◌, nat_lt}
-use Rattle.std.specs.List.{list_any}
-use Rattle.std.proofs.lemmas.Bool.{and_from, both_ways, eq-eqb, lt-ltb, or_parts}
-use Rattle.mr_base.specs.Accesses.{conflicts, overlaps, some_conflict}
-use Rattle.mr_base.specs.declared.access.Access.{Access}
-use Rattle.mr_base.specs.declared.byte.AllocId.{AllocId}
-use Rattle.mr_base.specs.declared.thread.Event.{Event}
-use Rattle.mr_base.specs.declared.thread.Event.TheVariants.{Acquire, CreateLock, Join, Quiet, Release, Spawn}
-use Rattle.mr_event.specs.Footprints.{both_create, both_spawn, depends, joins_of, lock_of, same_lock, same_number, share_id, spawns, wakes}
-use Rattle.mr_event.specs.Footprint.{Footprint}
-use Rattle.mr_start.specs.PlanNotes.{event_of}
+use Rattle.mr_exchange.proofs.Common.{◌≡◌, ℕ, ◌+◌, refl, sym, ap, ◌∙◌, subst, List, arith, Some, true, false, Any, Contains, ◌&&◌, ◌||◌, ◌==◌, nat_lt, list_any, and_from, both_ways, eq-eqb, lt-ltb, or_parts, some_conflict, Access, AllocId, Event, Acquire, CreateLock, Join, Quiet, Release, Spawn, depends, spawns, wakes, Footprint, event_of, ActsOn, IsCreation, IsSpawn, HasOneEvent}
+use Rattle.mr_base.specs.Accesses.{conflicts, overlaps}
+use Rattle.mr_event.specs.Footprints.{both_create, both_spawn, joins_of, lock_of, same_lock, same_number, share_id}
 use Rattle.mr_start.specs.PlanPlaces.{Covers}
-use Rattle.mr_exchange.specs.Spots.{ActsOn, IsCreation, IsSpawn}
-use Rattle.mr_exchange.specs.Swap.{HasOneEvent}
-use Rattle.mr_exchange.proofs.ElementTests.{any_element, none_passes}
 use Rattle.mr_base.specs.Identities.{same_id}
+use Rattle.mr_exchange.proofs.ElementTests.{any_element, none_passes}
 
 -- ---- the tests
 

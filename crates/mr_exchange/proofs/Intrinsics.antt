@@ -1,35 +1,24 @@
 -- Each intrinsic makes the allocation that it asked for, notes one event at most, and asks for a waiter only of a lock that it looked at.
-use Rattle.std.proofs.Common.{ℕ, refl, arith, List, [], ◌∷◌, Bool, true, false, Option, Some, None, ◌-◌, ◌^◌}
-use Rattle.std.specs.Prelude.{if◌then◌else◌, nat_lt}
+use Rattle.mr_exchange.proofs.Common.{ℕ, refl, arith, List, [], ◌∷◌, Bool, true, false, Option, Some, None, ◌-◌, ◌^◌, if◌then◌else◌, nat_lt, plainly, Ty, Acquire, CreateLock, Join, Release, Address, Waiter, Val, out-Val, Done, Undefined, Ask, ◌>>=◌, Allocate, reading_part, addresses, ActsOn, IsCreation, IsWaiter, pointer_in}
 use Rattle.mr_start.specs.EvalTyped.{meaningless}
 use Rattle.mr_base.specs.Stops.{Stop}
-use Rattle.mr_base.specs.Stops.{plainly}
 use Rattle.mr_ast.specs.declared.program.Intrinsic.{Intrinsic}
-use Rattle.mr_ast.specs.declared.types.Ty.{Ty, out-Ty}
+use Rattle.mr_ast.specs.declared.types.Ty.{out-Ty}
 use Rattle.mr_base.specs.declared.byte.Kind.TheVariants.{Heap}
 use Rattle.mr_base.specs.declared.reason.Reason.TheVariants.{BadAlign, SizeTooLarge}
-use Rattle.mr_base.specs.declared.thread.Event.TheVariants.{Acquire, CreateLock, Join, Release}
-use Rattle.mr_sched.specs.declared.schedule.Ask.TheVariants.{Address, Waiter}
-use Rattle.mr_value.specs.declared.val.Val.{Val, out-Val}
-use Rattle.mr_value.specs.declared.val.Val.TheVariants as val
 use Rattle.mr_value.specs.Numbers.{number_of}
-use Rattle.mr_base.specs.Script.{Done, Undefined, Ask, ◌>>=◌}
-use Rattle.mr_start.specs.EvalMemoryQueries.{Allocate, reading_part}
 use Rattle.mr_exchange.specs.PlanMachine.{CreatesNothing}
 use Rattle.mr_exchange.specs.PlanQueries.{OfMemory, StepScript, memory_part}
-use Rattle.mr_exchange.proofs.PlanElementLaws.{Any-one}
 use Rattle.mr_start.specs.IntrOperations.{Operation, acquire, allocate, allocating, assume, assuming, atomic_load, atomic_store, compare_exchange, create_lock, deallocate, exchanged, fetch, fetched, found, instant, is_power_of_two, join, loaded, modify, number_in, operation, print, release, releasing, truth_in, with_pick}
 use Rattle.mr_start.specs.IntrTexts.{texts_of}
 use Rattle.mr_start.proofs.IntrEachOperation.{of_operation}
-use Rattle.mr_exchange.specs.Meets.{addresses}
-use Rattle.mr_exchange.specs.Spots.{ActsOn, IsCreation}
-use Rattle.mr_exchange.specs.Swap.{IsWaiter}
+use Rattle.mr_start.specs.TypingTypes.{integer_in}
+use Rattle.mr_value.specs.declared.val.Val.TheVariants as val
+use Rattle.mr_exchange.proofs.PlanElementLaws.{Any-one}
 use Rattle.mr_exchange.proofs.Marks.{Marks, marked, unmarked}
 use Rattle.mr_exchange.proofs.Parts.{reads_any}
 use Rattle.mr_exchange.proofs.Tells.{Any-nil, Any-single, OpTells, PlanTells, one_event, tells_one, tells_quiet, tells_same}
 use Rattle.mr_exchange.proofs.Tracked.{Tracks}
-use Rattle.mr_start.specs.TypingTypes.{integer_in}
-use Rattle.mr_start.specs.EvalOperators.{pointer_in}
 
 -- the operation tells what it does
 abbrev pub OperationTells : Operation → Type 0

@@ -1,22 +1,13 @@
 -- The swap law of programs.
-use Rattle.std.proofs.Common.{◌≡◌, ℕ, refl, List, [], ◌∷◌, ◌++◌, length, Some}
-use Rattle.std.specs.Prelude.{None}
-use Rattle.mr_ast.specs.declared.program.Program.{Program}
-use Rattle.mr_exchange.specs.Trace.{AreIndependent}
-use Rattle.mr_sched.specs.declared.schedule.Entry.{Entry}
-use Rattle.mr_start.specs.TypingWalk.{WellFormed}
+use Rattle.mr_exchange.proofs.Common.{◌≡◌, ℕ, refl, List, [], ◌∷◌, ◌++◌, length, Some, None, Program, AreIndependent, Entry, WellFormed, Look, Own, thread_step, look_of, start_config, start_look, start_sound, SwapLaw}
 use Rattle.mr_exchange.specs.PlanMachine.{State}
-use Rattle.mr_start.specs.FrameFrames.{Look}
-use Rattle.mr_start.specs.Steps.{Own, thread_step}
-use Rattle.mr_start.specs.Start.{look_of, start_config, start_fault}
-use Rattle.mr_start.proofs.StartSound.{start_look, start_sound}
-use Rattle.mr_exchange.specs.Swap.{SwapLaw}
+use Rattle.mr_start.specs.Start.{start_fault}
+use Rattle.mr_exchange.specs.Exchange.{Done, Leads}
 use Rattle.mr_exchange.proofs.BareSteps.{taken, whole, whole_run}
 use Rattle.mr_exchange.proofs.StepRuns.{statuses_of}
 use Rattle.mr_exchange.proofs.SwapLaw.{swap_law}
 use Rattle.mr_exchange.proofs.Sane.{sound_is_sane}
 use Rattle.mr_exchange.proofs.Telling.{thread_step_tells}
-use Rattle.mr_exchange.specs.Exchange.{Done, Leads}
 use Rattle.mr_exchange.proofs.Exchanged.{NotesThread, neighbours_in_run}
 
 -- AT EACH SANE STATE

@@ -1,17 +1,11 @@
 -- An entry breaks none of the rules of its bare step exactly where it is legal.
-use Rattle.std.proofs.Common.{◌≡◌, ◌↔◌, ℕ, refl, ap, ◌∙◌, List, Bool, true, false, cond, Option, Some, None, length}
-use Rattle.std.proofs.lemmas.Bool.{lt-ltb, ltb-true}
-use Rattle.std.specs.Prelude.{nat_lt, slice_get}
-use Rattle.mr_base.specs.declared.thread.Status.{Status}
-use Rattle.mr_base.specs.declared.thread.Status.TheVariants.{Enabled, Ended, OnJoin, OnLock}
-use Rattle.mr_mem.specs.Memory.{ranges_of}
-use Rattle.mr_start.specs.PlanQueries.{Shared}
-use Rattle.mr_start.specs.PlanMachine.{CreatesLock, CreatesNothing, CreatesThread, Creation, Language, State, needs}
-use Rattle.mr_start.specs.PlanLegal.{count_of, creation_fault, else_fault, fault, needs_fault, picks_fault, state_fault, status_fault}
-use Rattle.mr_exchange.specs.Meets.{AreNewIn, HasRoom, IsLegalEntry}
+use Rattle.mr_exchange.proofs.Common.{◌≡◌, ℕ, refl, ap, ◌∙◌, List, Bool, true, false, cond, Option, Some, None, length, lt-ltb, nat_lt, slice_get, Status, Enabled, Ended, OnJoin, OnLock, ranges_of, Shared, CreatesLock, CreatesNothing, CreatesThread, Creation, Language, State, needs, count_of, else_fault, fault, picks_fault, state_fault, AreNewIn, HasRoom, IsLegalEntry}
+use Rattle.std.proofs.Common.{◌↔◌}
+use Rattle.std.proofs.lemmas.Bool.{ltb-true}
+use Rattle.mr_start.specs.PlanLegal.{creation_fault, needs_fault, status_fault}
 use Rattle.mr_start.proofs.PlanLegalLaws.{no_faults}
-use Rattle.mr_exchange.proofs.MeetsLaws.{legal_of_meets, meets_of_legal, new_of_memory}
 use Rattle.mr_sched.specs.declared.rule.ScheduleRule.{ScheduleRule}
+use Rattle.mr_exchange.proofs.MeetsLaws.{legal_of_meets, meets_of_legal, new_of_memory}
 use Rattle.mr_sched.specs.declared.rule.ScheduleRule.TheVariants as rule
 
 -- no fault of the status: the thread is enabled

@@ -3,6 +3,7 @@ pub mod CallAnswers
 pub mod Calls
 pub mod Changes
 pub mod Choices
+mod Common
 pub mod Counted
 pub mod Editions
 pub mod ElementTests

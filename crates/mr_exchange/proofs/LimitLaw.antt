@@ -1,33 +1,14 @@
 -- The law of limits, of any language of steps that tells what it does.
-use Rattle.std.proofs.Common.{◌≡◌, ℕ, ◌+◌, ◌<◌, ◌≤◌, ◌^◌, sym, ap, ◌∙◌, subst, List, [], ◌∷◌, All, arith, inl, inr, Bool, false, not, Option, None, Some, Any, Contains, length}
-use Rattle.std.proofs.lemmas.Bool.{ltb-false, or_parts}
-use Rattle.std.proofs.lemmas.List.Elements.{All-contains_itself, All-nil}
-use Rattle.std.proofs.lemmas.Option.{slice_get_within}
-use Rattle.std.specs.Prelude.{◌==◌, ◌||◌, nat_lt, slice_get}
-use Rattle.std.specs.FinMap as fin
-use Rattle.mr_base.specs.declared.byte.AllocId.{AllocId}
-use Rattle.mr_base.specs.declared.thread.Event.{Event}
-use Rattle.mr_base.specs.declared.thread.Event.TheVariants.{Acquire, CreateLock, Join, Quiet, Release, Spawn}
-use Rattle.mr_base.specs.declared.thread.Status.{Status}
-use Rattle.mr_base.specs.declared.thread.Status.TheVariants.{Enabled}
-use Rattle.mr_event.specs.FootOk.{IsAccessOk, IsEventOk, IsFootOk}
-use Rattle.mr_mem.specs.Memory.{Allocation, Memory, Ranges, is_multiple, ranges_of}
+use Rattle.mr_exchange.proofs.Common.{◌≡◌, ℕ, ◌+◌, ◌<◌, ◌≤◌, ◌^◌, sym, ap, ◌∙◌, subst, List, [], ◌∷◌, All, arith, inl, inr, Bool, false, not, Option, None, Some, Any, Contains, length, or_parts, All-nil, slice_get_within, ◌==◌, ◌||◌, nat_lt, slice_get, AllocId, Event, Acquire, CreateLock, Join, Quiet, Release, Spawn, Status, Enabled, IsAccessOk, IsFootOk, Allocation, Memory, Ranges, ranges_of, Address, Waiter, Tally, count_of, state_fault, Completed, Creation, CreatesLock, CreatesNothing, CreatesThread, Goes, Language, Needs, State, Thread, bare, needs, Notes, event_of, foot_of, start_notes, Shared, Contains-nil, MemoryFacts, start_facts, longer_contains, tally_grows, AreNewIn, HasRoom, IsLegalEntry, Meets, MeetsAfter, addresses, IsCreation, IsSpawn, HasOneEvent, IsCreated, IsSane, IsTelling, StepTold}
+use Rattle.std.proofs.lemmas.Bool.{ltb-false}
+use Rattle.std.proofs.lemmas.List.Elements.{All-contains_itself}
+use Rattle.mr_event.specs.FootOk.{IsEventOk}
+use Rattle.mr_mem.specs.Memory.{is_multiple}
 use Rattle.mr_sched.specs.declared.schedule.Ask.{Ask}
-use Rattle.mr_sched.specs.declared.schedule.Ask.TheVariants.{Address, Waiter}
-use Rattle.mr_start.specs.PlanEvalTally.{Tally}
-use Rattle.mr_start.specs.PlanLegal.{count_of, state_fault}
 use Rattle.mr_start.specs.PlanLimits.{ArePlaced, IsWithin}
-use Rattle.mr_start.specs.PlanMachine.{Completed, Creation, CreatesLock, CreatesNothing, CreatesThread, Goes, Language, Needs, State, Thread, bare, needs}
-use Rattle.mr_start.specs.PlanNotes.{Notes, event_of, foot_of, start_notes}
-use Rattle.mr_start.specs.PlanQueries.{Shared}
 use Rattle.mr_start.proofs.PlanAccessBounds.{accesses_ok}
-use Rattle.mr_start.proofs.PlanElementLaws.{Contains-nil}
-use Rattle.mr_start.proofs.PlanMemoryFacts.{MemoryFacts, start_facts}
-use Rattle.mr_start.proofs.PlanTallyGrows.{longer_contains, tally_grows}
 use Rattle.mr_exchange.specs.Limits.{LimitLaw}
-use Rattle.mr_exchange.specs.Meets.{AreNewIn, HasRoom, IsLegalEntry, Meets, MeetsAfter, addresses}
-use Rattle.mr_exchange.specs.Spots.{IsCreation, IsSpawn}
-use Rattle.mr_exchange.specs.Swap.{HasOneEvent, IsCreated, IsSane, IsTelling, StepTold}
+use Rattle.std.specs.FinMap as fin
 use Rattle.mr_exchange.proofs.BareSteps.{Taken, needs_are, needs_in, taken, whole, whole_run}
 use Rattle.mr_exchange.proofs.Changes.{Change, at_memory, awaits_end, awaits_lock, frees_lock, gives_lock, new_lock, new_thread, own_end, prints, run_keeps, sees_end, sees_lock, takes_lock}
 use Rattle.mr_exchange.proofs.Editions.{all_ok}

@@ -1,8 +1,6 @@
 -- Facts on each element of a list, on each element and the later ones, and on neighbours, by recursion on the list.
-use Rattle.std.proofs.Common.{◌≡◌, ℕ, suc, zero, ◌<◌, ◌≤◌, ◌+◌, List, [], ◌∷◌, ◌++◌, length, get_or, Bool, true, false, refl, sym, ap, subst, inl, inr, arith, add-zero, zero-add}
-use native.Mathlib.Decide.{ℕ_discrete}
-use Rattle.std.specs.List.{filter, range_with_len}
-use Rattle.std.proofs.lemmas.Bool.{cases_Bool}
+use Rattle.mr_exchange.proofs.Common.{◌≡◌, ℕ, suc, zero, ◌<◌, ◌≤◌, ◌+◌, List, [], ◌∷◌, ◌++◌, length, get_or, Bool, true, false, refl, sym, ap, subst, inl, inr, arith, zero-add, ℕ_discrete, filter, range_with_len, cases_Bool}
+use Rattle.std.proofs.Common.{add-zero}
 use Rattle.mr_exchange.specs.Shown.{NextIs, AreAdjacent}
 
 -- P holds of each element

@@ -1,26 +1,11 @@
 -- Each query is local: where the spots that it reads are the same, it answers the same and changes the same.
-use Rattle.std.proofs.Common.{◌≡◌, ◌≢◌, ℕ, ◌+◌, refl, sym, ap, ◌∙◌, subst, List, [], ◌∷◌, ◌++◌, length, inl, inr, Option, Some, None, Ok, Bool, true, false, Any}
-use Rattle.std.specs.Prelude.{slice_get, slice_set}
-use Rattle.std.specs.Option.{option_map}
-use Rattle.std.proofs.lemmas.Bool.{cases_eq}
-use Rattle.std.proofs.lemmas.List.{length-map, length-set, length_push}
+use Rattle.mr_exchange.proofs.Common.{◌≡◌, ◌≢◌, ℕ, ◌+◌, refl, sym, ap, ◌∙◌, subst, List, [], ◌∷◌, ◌++◌, length, inl, inr, Option, Some, None, Ok, Bool, true, false, Any, slice_get, slice_set, option_map, cases_eq, length-map, length-set, length_push, Acquire, CreateLock, Join, Release, Spawn, Status, Enabled, Ended, OnJoin, OnLock, Memory, Went, on, goes_on, any_waiting, any_waits, handed, joiners, on_join, on_lock, over, wake, Tally, Notes, Await, Finish, NewLock, OfMemory, Print, Query, Reply, Shared, Start, TryLock, Unlock, Waiting, answer, blocked, in_shared, note, tables_of, woke, at_outcome, ActsOn, At, Holder, InMemory, IsCreation, IsGoing, IsSpawn, LockCount, Over, Reads, Spot, ThreadCount, WaitsJoin, WaitsLock, Writes, at_spot}
 use Rattle.std.proofs.lemmas.List.Quantifiers.{Any-push}
-use Rattle.mr_base.specs.declared.thread.Event.TheVariants.{Acquire, CreateLock, Join, Release, Spawn}
-use Rattle.mr_base.specs.declared.thread.Status.{Status}
-use Rattle.mr_base.specs.declared.thread.Status.TheVariants.{Enabled, Ended, OnJoin, OnLock}
-use Rattle.mr_mem.specs.Memory.{Memory}
-use Rattle.mr_base.specs.Script.{Went, on}
-use Rattle.mr_base.proofs.ScriptSwaps.{IsLocal, goes_on}
-use Rattle.mr_start.specs.SyncTables.{any_waiting, any_waits, handed, joiners, on_join, on_lock, over, wake}
+use Rattle.mr_base.proofs.ScriptSwaps.{IsLocal}
 use Rattle.mr_start.specs.PlanEvalMemoryQueries.{MemoryQuery, memory_answer}
-use Rattle.mr_start.specs.PlanEvalTally.{Tally}
-use Rattle.mr_start.specs.PlanNotes.{Notes}
 use Rattle.mr_start.specs.PlanPlaces.{MemoryPlace}
-use Rattle.mr_start.specs.PlanQueries.{Await, Finish, NewLock, OfMemory, Print, Query, Reply, Shared, Start, TryLock, Unlock, Waiting, answer, blocked, in_shared, note, tables_of, woke}
 use Rattle.mr_start.proofs.PlanMemoryLocal.{memory_local}
 use Rattle.mr_start.proofs.PlanMemoryMoves.{IsMove, MovesAt}
-use Rattle.mr_start.proofs.PlanWentLaws.{at_outcome}
-use Rattle.mr_exchange.specs.Spots.{ActsOn, At, Holder, InMemory, IsCreation, IsGoing, IsSpawn, LockCount, Over, Reads, Spot, ThreadCount, WaitsJoin, WaitsLock, Writes, at_spot}
 use Rattle.mr_exchange.proofs.CallAnswers.{IsHeld, handing, held_passes, holds, joining, looking, not_broken, taking, unbroken, unlocked_free, unlocked_free_too, unlocked_given, unlocked_given_too}
 use Rattle.mr_exchange.proofs.ElementTests.{last_is}
 use Rattle.mr_exchange.proofs.PushedLists.{push_here, push_there}

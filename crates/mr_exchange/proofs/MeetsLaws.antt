@@ -1,24 +1,17 @@
 -- Picks break no rule exactly where they meet the asks, and what the picks of neighbouring entries have to do with one another.
-use Rattle.std.proofs.Common.{◌≡◌, ◌≢◌, ℕ, ◌+◌, refl, sym, ap, ◌∙◌, subst, List, [], ◌∷◌, arith, ◌⊎◌, inl, inr, Bool, true, false, cond, Option, Some, None, Contains}
-use Rattle.std.specs.Prelude.{◌&&◌, nat_lt, slice_get}
-use Rattle.mr_base.specs.declared.byte.AllocId.{AllocId}
-use Rattle.mr_base.specs.declared.thread.Status.{Status}
+use Rattle.mr_exchange.proofs.Common.{◌≡◌, ◌≢◌, ℕ, ◌+◌, refl, sym, ap, ◌∙◌, subst, List, [], ◌∷◌, arith, ◌⊎◌, inl, inr, Bool, true, false, cond, Option, Some, None, Contains, ◌&&◌, nat_lt, slice_get, AllocId, Status, Memory, Range, Ranges, ranges_of, Address, Waiter, on_lock, Tally, else_fault, fault, picks_fault, Contains-nil, MemoryFacts, AreNewIn, Exchanged, Meets, MeetsAfter, addresses}
 use Rattle.mr_base.specs.Pairs.{is_meeting}
 use Rattle.mr_mem.specs.declared.fault.PickFault.{PickFault}
 use Rattle.mr_mem.specs.declared.fault.PickFault.TheVariants.{BadAddress, Reused}
-use Rattle.mr_mem.specs.Memory.{Memory, Range, Ranges, first_overlapped, is_bad_address, range_fault, ranges_of, reused, with_range}
+use Rattle.mr_mem.specs.Memory.{first_overlapped, is_bad_address, range_fault, reused, with_range}
 use Rattle.mr_sched.specs.declared.schedule.Ask.{Ask}
-use Rattle.mr_sched.specs.declared.schedule.Ask.TheVariants.{Address, Waiter}
-use Rattle.mr_start.specs.SyncTables.{on_lock}
-use Rattle.mr_start.specs.PlanEvalTally.{Tally}
-use Rattle.mr_start.specs.PlanLegal.{Fault, address_fault, else_fault, fault, picks_fault}
-use Rattle.mr_start.proofs.PlanElementLaws.{Contains-nil}
+use Rattle.mr_start.specs.PlanLegal.{Fault, address_fault}
 use Rattle.mr_start.proofs.PlanLegalLaws.{no_faults}
-use Rattle.mr_start.proofs.PlanMemoryFacts.{MemoryFacts, Ranged}
-use Rattle.mr_exchange.specs.Meets.{AreApart, AreNew, AreNewIn, AreWaiting, Exchanged, IsApartFrom, IsClear, IsTaken, Meets, MeetsAfter, TakesAlso, TakesOnly, addresses, ranges_after, waiters}
+use Rattle.mr_start.proofs.PlanMemoryFacts.{Ranged}
+use Rattle.mr_exchange.specs.Meets.{AreApart, AreNew, AreWaiting, IsApartFrom, IsClear, IsTaken, TakesAlso, TakesOnly, ranges_after, waiters}
+use Rattle.mr_mem.proofs.IndexLaws.{not_reused}
 use Rattle.mr_exchange.proofs.ElementTests.{front_cases, here, there}
 use Rattle.mr_exchange.proofs.RangeLists.{put_from, put_has, put_keeps, range_from, range_there}
-use Rattle.mr_mem.proofs.IndexLaws.{not_reused}
 use Rattle.mr_sched.specs.declared.rule.ScheduleRule.TheVariants as rule
 
 -- ---- ranges apart

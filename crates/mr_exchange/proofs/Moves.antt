@@ -1,9 +1,5 @@
 -- Steps that move past independent ones, and steps that run without the others.
-use Rattle.std.proofs.Common.{◌≡◌, ℕ, List, [], ◌∷◌, ◌++◌, Bool, true, false, cond, not, refl, subst}
-use Rattle.std.specs.List.{filter}
-use Rattle.mr_event.specs.Footprint.{Footprint}
-use Rattle.mr_event.specs.Order.{step_at}
-use Rattle.mr_exchange.specs.Trace.{AreIndependent, Machine, Runs}
+use Rattle.mr_exchange.proofs.Common.{◌≡◌, ℕ, List, [], ◌∷◌, ◌++◌, Bool, true, false, cond, not, refl, subst, filter, Footprint, step_at, AreIndependent, Machine, Runs}
 use Rattle.mr_exchange.proofs.Lists.{Each, Ahead, Each-weaker, Each-filter}
 
 -- zs draws the steps of o one at a time, each from behind steps that are independent of it

@@ -1,22 +1,9 @@
 -- What a step notes of threads and locks is there, and how many there are.
-use Rattle.std.proofs.Common.{◌≡◌, ℕ, ◌+◌, ◌<◌, ◌≤◌, refl, sym, ◌∙◌, subst, List, [], ◌∷◌, ◌++◌, length, arith, ◌⊎◌, inl, inr, Any, Contains, None}
-use Rattle.std.proofs.lemmas.List.{length-map, length-set, length_push}
-use Rattle.std.proofs.lemmas.List.Elements.{Contains-append_cases, Contains-append_left, Contains-push, Contains-push_cases}
-use Rattle.std.proofs.lemmas.Option.{slice_get_within}
-use Rattle.std.specs.Prelude.{slice_set}
-use Rattle.mr_base.specs.declared.thread.Event.{Event}
-use Rattle.mr_base.specs.declared.thread.Event.TheVariants.{Acquire, CreateLock, Join, Quiet, Release, Spawn}
-use Rattle.mr_base.specs.declared.thread.Status.TheVariants.{Enabled, Ended, OnJoin, OnLock}
-use Rattle.mr_start.specs.SyncTables.{joiners, wake}
-use Rattle.mr_start.specs.PlanNotes.{Notes, start_notes}
-use Rattle.mr_start.specs.PlanQueries.{Shared}
-use Rattle.mr_start.proofs.PlanElementLaws.{Contains-nil}
-use Rattle.mr_exchange.specs.Spots.{IsCreation, IsSpawn}
-use Rattle.mr_exchange.specs.Swap.{HasOneEvent}
+use Rattle.mr_exchange.proofs.Common.{◌≡◌, ℕ, ◌+◌, ◌<◌, ◌≤◌, refl, sym, ◌∙◌, subst, List, [], ◌∷◌, ◌++◌, length, arith, ◌⊎◌, inl, inr, Any, Contains, None, length-map, length-set, length_push, Contains-append_cases, Contains-append_left, Contains-push, Contains-push_cases, slice_get_within, slice_set, Event, Acquire, CreateLock, Join, Quiet, Release, Spawn, Enabled, Ended, OnJoin, OnLock, joiners, wake, Notes, start_notes, Shared, Contains-nil, IsCreation, IsSpawn, HasOneEvent}
+use Rattle.mr_base.proofs.Lists.{Any-append_left}
 use Rattle.mr_exchange.proofs.Changes.{Change, at_memory, awaits_end, awaits_lock, frees_lock, gives_lock, new_lock, new_thread, own_end, prints, sees_end, sees_lock, takes_lock}
 use Rattle.mr_exchange.proofs.ElementTests.{any_element, any_from}
 use Rattle.mr_exchange.proofs.Rising.{joiner_between}
-use Rattle.mr_base.proofs.Lists.{Any-append_left}
 
 -- the lock or the thread of an event is there, with so many threads and locks
 abbrev pub IsThere : ℕ → ℕ → Event → Type 0

@@ -1,18 +1,11 @@
 -- The two witnesses of a race of two threads with a third step, and a run in another order, computed.
-use Rattle.std.proofs.Common.{◌≡◌, ℕ, suc, zero, List, [], ◌∷◌, false, refl, inl, inr, arith}
-use Rattle.std.proofs.lemmas.Bool.{both_ways}
-use Rattle.mr_base.specs.Accesses.{some_conflict, some_race}
-use Rattle.mr_base.specs.declared.thread.Event.TheVariants.{Quiet}
-use Rattle.mr_event.specs.Footprint.{Footprint}
-use Rattle.mr_event.specs.Footprints.{depends, wakes}
+use Rattle.mr_exchange.proofs.Common.{◌≡◌, ℕ, suc, zero, List, [], ◌∷◌, false, refl, inl, inr, arith, both_ways, some_conflict, some_race, Quiet, Footprint, depends, wakes, no_step, HappensBefore, HappensBefore-before, IsAmong, IsPlacing, short_keeps}
 use Rattle.mr_event.specs.Kept.{kept, selected}
-use Rattle.mr_event.specs.Order.{no_step, HappensBefore}
 use Rattle.mr_event.specs.Predicted.{happens_before, race_pair}
 use Rattle.mr_event.proofs.Examples.{ending, halves, spawning, step}
-use Rattle.mr_event.proofs.Ordered.{HappensBefore-before}
 use Rattle.mr_event.proofs.Tests.{happens_before_is}
 use Rattle.mr_exchange.specs.Shown.{steps_of}
-use Rattle.mr_exchange.specs.Trace.{IsAmong, IsPlacing, IsReady, short_keeps}
+use Rattle.mr_exchange.specs.Trace.{IsReady}
 
 -- the end of the first thread is left out too, and its store is kept, since it is a partner of the load
 short_witness : selected (short_keeps halves 6 8) 6 8 ≡ 0 ∷ 1 ∷ 2 ∷ 3 ∷ 4 ∷ 6 ∷ 8 ∷ []

@@ -1,11 +1,6 @@
 -- An order in which each step is placed behind all that happen before it is a rearrangement.
-use Rattle.std.proofs.Common.{◌≡◌, ℕ, suc, zero, ◌<◌, ◌≤◌, ◌+◌, List, [], ◌∷◌, length, refl, sym, ◌∙◌, inl, inr, arith}
-use native.Mathlib.Decide.{ℕ_discrete, dec_lt}
+use Rattle.mr_exchange.proofs.Common.{◌≡◌, ℕ, suc, zero, ◌<◌, ◌≤◌, ◌+◌, List, [], ◌∷◌, length, refl, sym, ◌∙◌, inl, inr, arith, ℕ_discrete, dec_lt, eq-eqb, ne_eqb, Footprint, HappensBefore, places, IsRearrangement, IsAmong, IsPlacing}
 use Rattle.std.specs.Prelude.{AllPairs}
-use Rattle.std.proofs.lemmas.Bool.{eq-eqb, ne_eqb}
-use Rattle.mr_event.specs.Footprint.{Footprint}
-use Rattle.mr_event.specs.Order.{HappensBefore, places, IsRearrangement}
-use Rattle.mr_exchange.specs.Trace.{IsAmong, IsPlacing}
 use Rattle.mr_exchange.proofs.Lists.{Each, Ahead, Each-at, Each-weaker, Each-places, Ahead-places}
 use Rattle.mr_exchange.proofs.Rearranged.{times, SameTimes, times-places, permutation_from_times}
 

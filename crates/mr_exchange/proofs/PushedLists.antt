@@ -1,7 +1,5 @@
 -- Lists with one element more, and with another one in the place of an element.
-use Rattle.std.proofs.Common.{◌≡◌, ◌≢◌, ℕ, zero, suc, refl, ap, List, [], ◌∷◌, ◌++◌, length, Some}
-use Rattle.std.specs.Prelude.{slice_get, slice_set}
-use Rattle.std.proofs.lemmas.Option.{slice_get_within}
+use Rattle.mr_exchange.proofs.Common.{◌≡◌, ◌≢◌, ℕ, zero, suc, refl, ap, List, [], ◌∷◌, ◌++◌, length, Some, slice_get, slice_set, slice_get_within}
 use Rattle.mr_start.proofs.PlanPositions.{set_here}
 
 -- what is put in the place of an element stands there

@@ -1,18 +1,14 @@
 -- What lists of ranges contain: of all allocations, and with one range more.
-use Rattle.std.proofs.Common.{◌≡◌, ◌≢◌, refl, sym, ap, ◌∙◌, subst, List, [], ◌∷◌, ◌⊎◌, inl, inr, Bool, true, false, cond, Some, Contains}
-use Rattle.std.proofs.lemmas.Bool.{and_parts}
-use Rattle.std.proofs.lemmas.Option.{same_Some}
+use Rattle.mr_exchange.proofs.Common.{◌≡◌, ◌≢◌, refl, sym, ap, ◌∙◌, subst, List, [], ◌∷◌, ◌⊎◌, inl, inr, Bool, true, false, cond, Some, Contains, and_parts, same_Some, AllocId, Allocation, Memory, Range, Ranges, id_cmp, ranges_of, Contains-nil, Contains-one}
 use Rattle.std.specs.Prelude.{T}
-use Rattle.std.specs.FinMap as fin
 use Rattle.std.specs.FinMap.Entries.{put, by_order, find, is_sorted, below_all}
 use Rattle.std.specs.Cmp.{tied_itself}
 use Rattle.std.specs.Ordering.{is_eq, is_lt, ordering_reverse}
 use Rattle.std.specs.declared.cmp.Ordering.{Ordering}
 use Rattle.std.specs.declared.cmp.Ordering.TheVariants.{Less, Equal, Greater}
-use Rattle.mr_base.specs.declared.byte.AllocId.{AllocId}
-use Rattle.mr_mem.specs.Memory.{Allocation, Memory, Range, Ranges, id_cmp, range_of, ranges_of}
+use Rattle.mr_mem.specs.Memory.{range_of}
 use Rattle.mr_mem.proofs.Identities.{id_exact, id_total, is_less}
-use Rattle.mr_start.proofs.PlanElementLaws.{Contains-nil, Contains-one}
+use Rattle.std.specs.FinMap as fin
 use Rattle.mr_exchange.proofs.ElementTests.{from_map, front_cases, here, in_map, there}
 
 -- ---- one range more

@@ -1,21 +1,13 @@
 -- A rearrangement of a run without a race pair runs, to the same end, and has no race pair.
-use Rattle.std.proofs.Common.{◌≡◌, ◌≢◌, ℕ, suc, zero, ◌<◌, ◌≤◌, ◌+◌, List, [], ◌∷◌, ◌++◌, length, map, get_or, true, false, cond, IsTrue, refl, sym, ◌∙◌, ap, subst, inl, inr, arith}
-use native.Mathlib.Decide.{ℕ_discrete}
-use Rattle.std.specs.Prelude.{◌==◌, IsPermutation}
-use Rattle.std.specs.List.{range_with_len, sum_by}
-use Rattle.std.proofs.lemmas.Bool.{both_ways, eq-eqb, ne_eqb, cases_Bool, cases_order}
+use Rattle.mr_exchange.proofs.Common.{◌≡◌, ◌≢◌, ℕ, suc, zero, ◌<◌, ◌≤◌, ◌+◌, List, [], ◌∷◌, ◌++◌, length, map, get_or, true, false, cond, refl, sym, ◌∙◌, ap, subst, inl, inr, arith, ℕ_discrete, ◌==◌, range_with_len, both_ways, eq-eqb, ne_eqb, cases_Bool, some_race, Footprint, wakes, no_step, step_at, thread_at, places, Edge, HappensBefore, RacePair, IsRearrangement, in_thread, woken, dependent, edge, chain, woken_before, last_edge, Edge-before, HappensBefore-before, some_race_sym, Machine, Runs, IsReported}
+use Rattle.std.proofs.Common.{IsTrue}
+use Rattle.std.specs.Prelude.{IsPermutation}
+use Rattle.std.specs.List.{sum_by}
+use Rattle.std.proofs.lemmas.Bool.{cases_order}
 use Rattle.std.proofs.lemmas.List.{get_or-map}
 use Rattle.std.proofs.lemmas.List.Sums.{sum_by-cons}
 use Rattle.std.proofs.lemmas.List.Sorted.{IsPermutation-refl, IsPermutation-trans, IsPermutation-middle, IsPermutation-cons, sum_by-IsPermutation}
-use Rattle.mr_base.specs.Accesses.{some_race}
-use Rattle.mr_event.specs.Footprint.{Footprint}
-use Rattle.mr_event.specs.Footprints.{wakes}
-use Rattle.mr_event.specs.Order.{no_step, step_at, thread_at, places, Edge, HappensBefore, RacePair, IsRearrangement}
-use Rattle.mr_event.specs.Order.Edge.{in_thread, woken, dependent}
-use Rattle.mr_event.specs.Order.HappensBefore.{edge, chain}
-use Rattle.mr_event.proofs.Ordered.{woken_before, last_edge, Edge-before, HappensBefore-before, some_race_sym}
 use Rattle.mr_exchange.specs.Shown.{EveryOrderRuns}
-use Rattle.mr_exchange.specs.Trace.{Machine, Runs, IsReported}
 use Rattle.mr_exchange.proofs.Lists.{Each, Ahead, Each-at, Each-weaker, Each-left, Each-with, Each-both, Ahead-middle, Ahead-without, Each-places, Ahead-places}
 use Rattle.mr_exchange.proofs.Moves.{Drawn, runs_drawn}
 use Rattle.mr_exchange.proofs.Unordered.{independent_steps}

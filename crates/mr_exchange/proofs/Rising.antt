@@ -1,10 +1,6 @@
 -- Lists of threads that rise: none, one, and those that wait for an end.
-use Rattle.std.proofs.Common.{◌≡◌, ℕ, zero, suc, ◌+◌, ◌<◌, ◌≤◌, subst, List, [], ◌∷◌, length, arith, inl, inr, Bool, true, false, cond, Some, Contains}
+use Rattle.mr_exchange.proofs.Common.{◌≡◌, ℕ, zero, suc, ◌+◌, ◌<◌, ◌≤◌, subst, List, [], ◌∷◌, length, arith, inl, inr, Bool, true, false, cond, Some, Contains, IsStrictlyIncreasing, Status, joiners, on_join, Contains-nil}
 use Rattle.std.specs.List.{slice_index}
-use Rattle.std.specs.List.Sorted.{IsStrictlyIncreasing}
-use Rattle.mr_base.specs.declared.thread.Status.{Status}
-use Rattle.mr_start.specs.SyncTables.{joiners, on_join}
-use Rattle.mr_start.proofs.PlanElementLaws.{Contains-nil}
 use Rattle.mr_exchange.proofs.ElementTests.{front_cases, here}
 
 pub rising_none : IsStrictlyIncreasing []

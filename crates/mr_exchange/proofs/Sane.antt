@@ -1,11 +1,6 @@
 -- What each state of a run keeps is what the exchange of neighbouring steps asks of a state.
-use Rattle.std.proofs.Common.{◌<◌, sym, ◌∙◌, subst}
-use Rattle.std.proofs.lemmas.Option.{same_Some, slice_get_within}
-use Rattle.mr_ast.specs.declared.program.Program.{Program}
+use Rattle.mr_exchange.proofs.Common.{◌<◌, sym, ◌∙◌, subst, same_Some, slice_get_within, Program, IsSane, SoundState, Own}
 use Rattle.mr_exchange.specs.PlanMachine.{State, Thread}
-use Rattle.mr_exchange.specs.Swap.{IsSane}
-use Rattle.mr_start.specs.SoundState.{SoundState}
-use Rattle.mr_start.specs.Steps.{Own}
 
 -- WHAT A STATE KEEPS IS ENOUGH
 pub sound_is_sane : (p : Program) (s : State Own) → SoundState p s → IsSane s

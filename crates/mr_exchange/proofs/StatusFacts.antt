@@ -1,24 +1,9 @@
 -- What is known of the threads' statuses at each moment of a step: who is enabled, and who was.
-use Rattle.std.proofs.Common.{◌≡◌, ◌≢◌, ℕ, ◌+◌, ◌≤◌, refl, sym, ap, ◌∙◌, subst, List, [], ◌∷◌, ◌++◌, length, arith, ◌⊎◌, inl, inr, Some, Contains}
-use Rattle.std.specs.Prelude.{slice_get, slice_set}
-use Rattle.std.specs.Option.{option_map}
-use Rattle.std.proofs.lemmas.Bool.{cases_eq}
-use Rattle.std.proofs.lemmas.List.{length-map, length-set, length_push}
-use Rattle.std.proofs.lemmas.List.Elements.{Contains-append_left, Contains-append_right, Contains-push_cases}
-use Rattle.mr_base.specs.declared.thread.Event.{Event}
-use Rattle.mr_base.specs.declared.thread.Event.TheVariants.{Acquire, CreateLock, Join, Release, Spawn}
-use Rattle.mr_base.specs.declared.thread.Status.{Status}
-use Rattle.mr_base.specs.declared.thread.Status.TheVariants.{Enabled, Ended, OnJoin, OnLock}
-use Rattle.mr_start.specs.SyncTables.{joiners, wake}
-use Rattle.mr_start.specs.PlanNotes.{Notes, start_notes}
-use Rattle.mr_start.specs.PlanQueries.{Shared}
-use Rattle.mr_start.proofs.PlanElementLaws.{Contains-nil}
-use Rattle.mr_start.proofs.PlanTallyGrows.{tally_grows}
+use Rattle.mr_exchange.proofs.Common.{◌≡◌, ◌≢◌, ℕ, ◌+◌, ◌≤◌, refl, sym, ap, ◌∙◌, subst, List, [], ◌∷◌, ◌++◌, length, arith, ◌⊎◌, inl, inr, Some, Contains, slice_get, slice_set, option_map, cases_eq, length-map, length-set, length_push, Contains-append_left, Contains-append_right, Contains-push_cases, Event, Acquire, CreateLock, Join, Release, Spawn, Status, Enabled, Ended, OnJoin, OnLock, joiners, wake, Notes, start_notes, Shared, Contains-nil, tally_grows, set_there}
 use Rattle.mr_exchange.proofs.Changes.{Change, at_memory, awaits_end, awaits_lock, frees_lock, gives_lock, new_lock, new_thread, own_end, prints, sees_end, sees_lock, takes_lock}
 use Rattle.mr_exchange.proofs.ElementTests.{last_is}
 use Rattle.mr_exchange.proofs.PushedLists.{push_here, push_there, set_same}
 use Rattle.mr_exchange.proofs.Statuses.{after_end, behind_end, joiner_listed, woken_enabled}
-use Rattle.mr_base.proofs.Lists.{set_there}
 
 -- A step of thread t began with the statuses ss and is at xs with the notes n: it disabled no other thread; each other thread that is enabled
 -- was so before, or is noted as woken; the threads that it started are new, and none is gone.

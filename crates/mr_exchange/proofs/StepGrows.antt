@@ -1,23 +1,12 @@
 -- What is noted only grows, a thread that goes on stays enabled, and two states with the same at each spot are one.
-use Rattle.std.proofs.Common.{◌≡◌, ℕ, refl, sym, ap, ◌∙◌, subst, List, [], ◌∷◌, ◌++◌, length, inl, inr, Some, None, true, arith}
-use Rattle.std.specs.Prelude.{slice_get, slice_set}
-use Rattle.std.proofs.lemmas.Bool.{cases_eq}
-use Rattle.std.proofs.lemmas.Option.{slice_get_past}
-use Rattle.mr_base.specs.declared.thread.Event.{Event}
-use Rattle.mr_base.specs.declared.thread.Event.TheVariants.{Acquire, CreateLock, Join, Release, Spawn}
-use Rattle.mr_base.specs.declared.thread.Status.{Status}
-use Rattle.mr_base.specs.declared.thread.Status.TheVariants.{Enabled}
+use Rattle.mr_exchange.proofs.Common.{◌≡◌, ℕ, refl, sym, ap, ◌∙◌, subst, List, [], ◌∷◌, ◌++◌, length, inl, inr, Some, None, true, arith, slice_get, slice_set, cases_eq, slice_get_past, Event, Acquire, CreateLock, Join, Release, Spawn, Status, Enabled, Notes, Query, Reply, Shared, answer, longer_contains, tally_grows, ActsOn, At, EndsThread, Holder, InMemory, IsCreation, IsGoing, IsSpawn, LockCount, Over, Reads, Spot, ThreadCount, WaitsJoin, WaitsLock, Writes, at_spot, set_there}
 use Rattle.mr_base.proofs.ScriptSwaps.{IsGrowing, IsKept}
-use Rattle.mr_start.specs.PlanNotes.{Notes}
-use Rattle.mr_start.specs.PlanQueries.{Query, Reply, Shared, answer}
 use Rattle.mr_start.proofs.PlanListPlaces.{same_by_places}
 use Rattle.mr_start.proofs.PlanMemoryLocal.{same_memory}
-use Rattle.mr_start.proofs.PlanTallyGrows.{Longer, TallyGrows, grows_same, longer_any, longer_contains, longer_same, reads_grow, tally_grows, writes_grow}
-use Rattle.mr_exchange.specs.Spots.{ActsOn, At, EndsThread, Holder, InMemory, IsCreation, IsGoing, IsSpawn, LockCount, Over, Reads, Spot, ThreadCount, WaitsJoin, WaitsLock, Writes, at_spot}
+use Rattle.mr_start.proofs.PlanTallyGrows.{Longer, TallyGrows, grows_same, longer_any, longer_same, reads_grow, writes_grow}
 use Rattle.mr_exchange.proofs.Changes.{Change, at_memory, awaits_end, awaits_lock, change, frees_lock, gives_lock, new_lock, new_thread, own_end, prints, sees_end, sees_lock, takes_lock}
 use Rattle.mr_exchange.proofs.PushedLists.{push_there, set_same}
 use Rattle.mr_exchange.proofs.Statuses.{same_status}
-use Rattle.mr_base.proofs.Lists.{set_there}
 
 -- ---- notes
 

@@ -1,21 +1,7 @@
 -- A small language that tells what it does, and two of its steps, exchanged: a thread makes a lock, and another one prints.
-use Rattle.std.proofs.Common.{◌≡◌, ℕ, zero, suc, refl, sym, ◌∙◌, subst, List, [], ◌∷◌, length, Option, Some, None, arith, Any}
+use Rattle.mr_exchange.proofs.Common.{◌≡◌, ℕ, zero, suc, refl, sym, ◌∙◌, subst, List, [], ◌∷◌, length, Option, Some, None, arith, Any, some_conflict, AllocId, Event, CreateLock, Enabled, depends, wakes, Allocation, id_cmp, Ask, Done, Went, run, Aborts, Completed, CreatesLock, CreatesNothing, Exits, Flow, Goes, Language, State, bare, thread_of, Notes, accesses_in, start_notes, NewLock, Print, Shared, StepScript, answer, note, Contains-nil, Contains-one, at_outcome, IsCreation, IsSpawn, AreExchanged, IsSane, IsTelling, IsWaiter, StepTold}
+use Rattle.mr_start.specs.PlanMachine.{Plan}
 use Rattle.std.specs.FinMap as fin
-use Rattle.mr_base.specs.Accesses.{some_conflict}
-use Rattle.mr_base.specs.declared.byte.AllocId.{AllocId}
-use Rattle.mr_base.specs.declared.thread.Event.{Event}
-use Rattle.mr_base.specs.declared.thread.Event.TheVariants.{CreateLock}
-use Rattle.mr_base.specs.declared.thread.Status.TheVariants.{Enabled}
-use Rattle.mr_event.specs.Footprints.{depends, wakes}
-use Rattle.mr_mem.specs.Memory.{Allocation, id_cmp}
-use Rattle.mr_base.specs.Script.{Ask, Done, Went, run}
-use Rattle.mr_start.specs.PlanMachine.{Aborts, Completed, CreatesLock, CreatesNothing, Exits, Flow, Goes, Language, Plan, State, bare, thread_of}
-use Rattle.mr_start.specs.PlanNotes.{Notes, accesses_in, start_notes}
-use Rattle.mr_start.specs.PlanQueries.{NewLock, Print, Shared, StepScript, answer, note}
-use Rattle.mr_start.proofs.PlanElementLaws.{Contains-nil, Contains-one}
-use Rattle.mr_start.proofs.PlanWentLaws.{at_outcome}
-use Rattle.mr_exchange.specs.Spots.{IsCreation, IsSpawn}
-use Rattle.mr_exchange.specs.Swap.{AreExchanged, IsSane, IsTelling, IsWaiter, StepTold}
 use Rattle.mr_exchange.proofs.ElementTests.{any_from, here}
 use Rattle.mr_exchange.proofs.Rising.{rising_none}
 use Rattle.mr_exchange.proofs.SwapLaw.{swap_law}

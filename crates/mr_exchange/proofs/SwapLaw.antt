@@ -1,23 +1,8 @@
 -- The swap law, over any language of steps that tells what it does.
-use Rattle.std.proofs.Common.{◌≡◌, ◌≢◌, ℕ, ◌<◌, refl, sym, ap, ◌∙◌, subst, List, length, arith, ◌⊎◌, inl, inr, Some, None, false, Contains}
-use Rattle.std.specs.Prelude.{slice_get}
-use Rattle.std.proofs.lemmas.Option.{slice_get_within}
-use Rattle.mr_base.specs.declared.thread.Status.TheVariants.{Enabled}
-use Rattle.mr_event.specs.Footprints.{depends, wakes}
-use Rattle.mr_mem.specs.Memory.{ranges_of}
-use Rattle.mr_sched.specs.declared.schedule.Ask.TheVariants.{Waiter}
-use Rattle.mr_base.specs.Script.{Went, run}
-use Rattle.mr_base.proofs.ScriptSwaps.{Apart, Follows, Grows, Swapped, follows, frame, grows, swap}
-use Rattle.mr_start.specs.SyncTables.{on_lock}
-use Rattle.mr_start.specs.PlanLegal.{count_of, state_fault}
-use Rattle.mr_start.specs.PlanMachine.{Completed, Creation, CreatesLock, CreatesNothing, CreatesThread, Goes, Language, Needs, State, Thread, bare, needs}
-use Rattle.mr_start.specs.PlanNotes.{Notes, start_notes}
+use Rattle.mr_exchange.proofs.Common.{◌≡◌, ◌≢◌, ℕ, ◌<◌, refl, sym, ap, ◌∙◌, subst, List, length, arith, ◌⊎◌, inl, inr, Some, None, false, Contains, slice_get, slice_get_within, Enabled, depends, wakes, ranges_of, Waiter, Went, run, Apart, on_lock, count_of, state_fault, Completed, Creation, CreatesLock, CreatesNothing, CreatesThread, Goes, Language, Needs, State, Thread, bare, needs, Notes, start_notes, Query, Reply, Shared, StepScript, answer, MemoryFacts, AreNewIn, Exchanged, HasRoom, IsLegalEntry, Meets, At, IsGoing, LockCount, Reads, Spot, ThreadCount, WaitsLock, Writes, at_spot, AreExchanged, IsCreated, IsSane, IsStarted, IsTelling, IsWaiter, StepTold, SwapLaw}
+use Rattle.mr_base.proofs.ScriptSwaps.{Follows, Grows, Swapped, follows, frame, grows, swap}
 use Rattle.mr_start.specs.PlanRuns.{foot_in}
-use Rattle.mr_start.specs.PlanQueries.{Query, Reply, Shared, StepScript, answer}
-use Rattle.mr_start.proofs.PlanMemoryFacts.{MemoryFacts}
-use Rattle.mr_exchange.specs.Meets.{AreNewIn, Exchanged, HasRoom, IsLegalEntry, Meets}
-use Rattle.mr_exchange.specs.Spots.{At, IsGoing, LockCount, Reads, Spot, ThreadCount, WaitsLock, Writes, at_spot}
-use Rattle.mr_exchange.specs.Swap.{AreExchanged, IsCreated, IsSane, IsStarted, IsTelling, IsWaiter, StepTold, SwapLaw}
+use Rattle.mr_base.proofs.Lists.{item_there}
 use Rattle.mr_exchange.proofs.BareSteps.{Taken, bare_goes, needs_are, needs_in, other_thread, taken, threads_after, threads_in_order, whole, whole_run}
 use Rattle.mr_exchange.proofs.ElementTests.{any_from}
 use Rattle.mr_exchange.proofs.Editions.{foot_same, freed_there}
@@ -29,7 +14,6 @@ use Rattle.mr_exchange.proofs.MeetsLaws.{steps_exchanged}
 use Rattle.mr_exchange.proofs.StatusFacts.{StatusFacts}
 use Rattle.mr_exchange.proofs.StepGrows.{growing, kept, same_shared}
 use Rattle.mr_exchange.proofs.StepRuns.{memory_of, statuses_of}
-use Rattle.mr_base.proofs.Lists.{item_there}
 
 -- ---- the laws of scripts, for steps
 

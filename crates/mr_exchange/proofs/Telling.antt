@@ -1,16 +1,9 @@
 -- The language of the machine has what the exchange of neighbouring steps, and the limits of their footprints, ask of a language.
-use Rattle.std.proofs.Common.{◌≡◌, ℕ, zero, suc, ◌≤◌, refl, sym, ◌∙◌, subst, List, arith, Any}
-use Rattle.std.specs.List.Sorted.{IsStrictlyIncreasing}
-use Rattle.mr_base.specs.Script.{Went, run}
-use Rattle.mr_exchange.specs.PlanMachine.{Flow, Goes, Plan}
+use Rattle.mr_exchange.proofs.Common.{◌≡◌, ℕ, zero, suc, ◌≤◌, refl, sym, ◌∙◌, subst, List, arith, Any, IsStrictlyIncreasing, Went, run, Plan, Look, addresses, ActsOn, HasOneEvent, IsCreated, IsStarted, IsTelling, Own, own_step, thread_step}
+use Rattle.mr_exchange.specs.PlanMachine.{Flow, Goes}
 use Rattle.mr_exchange.specs.PlanNotes.{Notes, start_notes}
 use Rattle.mr_exchange.specs.PlanQueries.{Shared, StepScript, answer}
-use Rattle.mr_start.specs.FrameFrames.{Look}
-use Rattle.mr_exchange.specs.Meets.{addresses}
-use Rattle.mr_exchange.specs.Spots.{ActsOn}
-use Rattle.mr_exchange.specs.Swap.{HasOneEvent, IsCreated, IsStarted, IsTelling}
 use Rattle.mr_exchange.proofs.Rising.{rising_none}
-use Rattle.mr_start.specs.Steps.{Own, own_step, thread_step}
 use Rattle.mr_exchange.proofs.Marks.{HasMarks, Marks, Wakes, marked, marking, unmarked}
 use Rattle.mr_exchange.proofs.Tells.{PlanTells, TurnTells}
 use Rattle.mr_exchange.proofs.Threads.{step_tells}

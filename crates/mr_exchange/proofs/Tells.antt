@@ -1,21 +1,11 @@
 -- What a plan of a step and its run tell of what the step does, as marks.
-use Rattle.std.proofs.Common.{◌≡◌, ℕ, ◌≤◌, refl, sym, subst, arith, List, [], ◌∷◌, Any, inl, inr}
-use Rattle.std.proofs.lemmas.List.Elements.{All-contains, All-map, Contains-push, Contains-push_cases}
-use Rattle.std.specs.Prelude.{Option}
-use Rattle.mr_ast.specs.declared.types.Ty.{Ty}
-use Rattle.mr_base.specs.declared.thread.Event.{Event}
-use Rattle.mr_layout.specs.Sizes.{align_of, size_of}
+use Rattle.mr_exchange.proofs.Common.{◌≡◌, ℕ, ◌≤◌, refl, sym, subst, arith, List, [], ◌∷◌, Any, inl, inr, Contains-push, Contains-push_cases, Option, Ty, Event, align_of, size_of, Address, Val, Plan, storage_asks, addresses, ActsOn, IsCreation, IsSpawn, HasOneEvent, IsCreated, IsStarted, IsWaiter}
+use Rattle.std.proofs.lemmas.List.Elements.{All-contains, All-map}
 use Rattle.mr_sched.specs.declared.schedule.Ask.{Ask}
-use Rattle.mr_sched.specs.declared.schedule.Ask.TheVariants.{Address}
-use Rattle.mr_value.specs.declared.val.Val.{Val}
-use Rattle.mr_exchange.specs.PlanMachine.{Aborts, CreatesNothing, Creation, Exits, Goes, Plan}
+use Rattle.mr_exchange.specs.PlanMachine.{Aborts, CreatesNothing, Creation, Exits, Goes}
 use Rattle.mr_exchange.specs.PlanQueries.{StepScript}
-use Rattle.mr_exchange.proofs.PlanElementLaws.{Any-one, Contains-nil, Contains-one}
-use Rattle.mr_start.specs.FrameCalls.{storage_asks}
 use Rattle.mr_start.specs.Steps.{Turn}
-use Rattle.mr_exchange.specs.Meets.{addresses}
-use Rattle.mr_exchange.specs.Spots.{ActsOn, IsCreation, IsSpawn}
-use Rattle.mr_exchange.specs.Swap.{HasOneEvent, IsCreated, IsStarted, IsWaiter}
+use Rattle.mr_exchange.proofs.PlanElementLaws.{Any-one, Contains-nil, Contains-one}
 use Rattle.mr_exchange.proofs.Marks.{Marks, NewRanges, marked}
 use Rattle.mr_exchange.proofs.Tracked.{Tracks}
 

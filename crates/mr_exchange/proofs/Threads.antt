@@ -1,30 +1,17 @@
 -- The step of a thread tells what it does.
-use Rattle.std.proofs.Common.{◌≡◌, ℕ, refl, sym, subst, arith, List, [], ◌∷◌, Bool, true, false, Option, Some, None}
-use Rattle.std.specs.Prelude.{if◌then◌else◌, slice_get}
-use Rattle.mr_base.specs.Stops.{plainly}
-use Rattle.mr_ast.specs.declared.program.Function.{Function}
+use Rattle.mr_exchange.proofs.Common.{◌≡◌, ℕ, refl, sym, subst, arith, List, [], ◌∷◌, Bool, true, false, Option, Some, None, if◌then◌else◌, slice_get, plainly, Function, Ty, Pointer, Spawn, Val, out-Val, Done, Undefined, MemoryScript, Plan, callee_of, enter, kept_types, same_types, storage_asks, GoesOn, Look, Onward, addresses, IsSpawn, IsStarted, Own, own_step, pointer_in}
 use Rattle.mr_ast.specs.declared.program.Intrinsic.{Intrinsic}
-use Rattle.mr_ast.specs.declared.program.Intrinsic.TheVariants as intrinsic
-use Rattle.mr_ast.specs.declared.types.Ty.{Ty}
-use Rattle.mr_base.specs.declared.byte.Pointer.{Pointer}
 use Rattle.mr_base.specs.declared.reason.Reason.TheVariants.{SignatureMismatch}
-use Rattle.mr_base.specs.declared.thread.Event.TheVariants.{Spawn}
-use Rattle.mr_value.specs.declared.val.Val.{Val, out-Val}
-use Rattle.mr_value.specs.declared.val.Val.TheVariants as val
-use Rattle.mr_base.specs.Script.{Done, Undefined}
-use Rattle.mr_start.specs.EvalMemoryQueries.{MemoryScript}
-use Rattle.mr_exchange.specs.PlanMachine.{CreatesNothing, CreatesThread, Creation, Plan}
-use Rattle.mr_exchange.proofs.PlanQuietRuns.{IsQuiet}
-use Rattle.mr_start.specs.FrameCalls.{callee_of, enter, kept_types, same_types, storage_asks}
-use Rattle.mr_start.specs.FrameFrames.{Aborts, EndsThread, Exits, GoesOn, Look, Onward}
+use Rattle.mr_exchange.specs.PlanMachine.{CreatesNothing, CreatesThread, Creation}
+use Rattle.mr_start.specs.FrameFrames.{Aborts, EndsThread, Exits}
 use Rattle.mr_start.specs.FrameOperations.{DueDo, Operands, finish, next_do, operands, store_result}
 use Rattle.mr_start.specs.FrameSteps.{frame_plan}
 use Rattle.mr_start.proofs.FrameQuietChanges.{store_quiet}
 use Rattle.mr_start.specs.IntrOperations.{Operation, operation}
-use Rattle.mr_exchange.specs.Meets.{addresses}
-use Rattle.mr_exchange.specs.Spots.{IsSpawn}
-use Rattle.mr_exchange.specs.Swap.{IsStarted}
-use Rattle.mr_start.specs.Steps.{Own, TurnPlan, do_step, finished, finishing, frame_step, in_step, last_payload, new_thread, onward, operated, own_step, spawn, spawn_function, spawn_number, spawn_types, start, step_due, thread_types}
+use Rattle.mr_start.specs.Steps.{TurnPlan, do_step, finished, finishing, frame_step, in_step, last_payload, new_thread, onward, operated, spawn, spawn_function, spawn_number, spawn_types, start, step_due, thread_types}
+use Rattle.mr_ast.specs.declared.program.Intrinsic.TheVariants as intrinsic
+use Rattle.mr_value.specs.declared.val.Val.TheVariants as val
+use Rattle.mr_exchange.proofs.PlanQuietRuns.{IsQuiet}
 use Rattle.mr_exchange.proofs.Calls.{enters}
 use Rattle.mr_exchange.proofs.FrameSteps.{FrameTells, frame_tells}
 use Rattle.mr_exchange.proofs.Intrinsics.{OperationTells, found_then, instant_tells, operation_tells}
@@ -32,7 +19,6 @@ use Rattle.mr_exchange.proofs.Marks.{Marks, NewRanges, marked, unmarked}
 use Rattle.mr_exchange.proofs.Parts.{makes_behind, makes_first, reads_any, reads_then}
 use Rattle.mr_exchange.proofs.Tells.{Any-single, OpTells, PlanTells, Tells, TurnTells, no_waiter, one_event, tells_end, tells_quiet}
 use Rattle.mr_exchange.proofs.Tracked.{Tracks, tracks_then}
-use Rattle.mr_start.specs.EvalOperators.{pointer_in}
 
 -- the plan of a turn tells what it does
 abbrev pub StepTells : TurnPlan → Type 0

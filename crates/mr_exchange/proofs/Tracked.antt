@@ -1,7 +1,6 @@
 -- What a script notes, whatever it is answered, from its form alone.
-use Rattle.std.proofs.Common.{◌≡◌}
-use Rattle.mr_base.specs.Script.{Script, Done, Undefined, IllFormed, Ask, ◌>>=◌, Outcome, Went, run}
-use Rattle.mr_base.proofs.ScriptSwaps.{goes_on}
+use Rattle.mr_exchange.proofs.Common.{◌≡◌, Done, Undefined, IllFormed, Ask, ◌>>=◌, Outcome, Went, run, goes_on}
+use Rattle.mr_base.specs.Script.{Script}
 use Rattle.mr_exchange.proofs.PlanWentLaws.{at_outcome}
 
 -- Marks are what is kept of notes, and mark tells what a query with its reply adds to them. Whatever is answered, the script, which begins with these

@@ -1,13 +1,5 @@
 -- Steps of which neither happens before the other.
-use Rattle.std.proofs.Common.{ℕ, ◌<◌, List, inl, inr}
-use Rattle.mr_event.specs.Footprint.{Footprint}
-use Rattle.mr_event.specs.Footprints.{depends, wakes}
-use Rattle.mr_event.specs.Order.{step_at, thread_at, HappensBefore, RacePair}
-use Rattle.mr_event.specs.Order.Edge.{in_thread, dependent}
-use Rattle.mr_event.specs.Order.HappensBefore.{edge}
-use Rattle.mr_event.proofs.Ordered.{woken_before}
-use Rattle.mr_exchange.specs.Trace.{AreIndependent}
-use Rattle.std.proofs.lemmas.Bool.{cases_Bool}
+use Rattle.mr_exchange.proofs.Common.{ℕ, ◌<◌, List, inl, inr, Footprint, depends, wakes, step_at, thread_at, HappensBefore, RacePair, in_thread, dependent, edge, woken_before, AreIndependent, cases_Bool}
 
 -- an earlier step that neither happens before a later one nor races with it is independent of it
 pub independent_steps : (run : List Footprint) (i j : ℕ) → i < j → (HappensBefore run i j → ⊥) → (RacePair run i j → ⊥) → AreIndependent (step_at run i) (step_at run j)

@@ -1,19 +1,8 @@
 -- A choice of steps runs alone, with the first pair at its end, and no race is reported before that pair.
-use Rattle.std.proofs.Common.{◌≡◌, ℕ, suc, ◌<◌, ◌≤◌, ◌+◌, ◌-◌, List, [], ◌∷◌, ◌++◌, length, Bool, true, false, not, ◌&&◌, refl, sym, ◌∙◌, ap, subst, inl, inr, arith, append_assoc, zero-add}
-use native.Mathlib.Decide.{ℕ_discrete, dec_lt}
-use Rattle.std.specs.Prelude.{◌==◌}
-use Rattle.std.specs.List.{filter, range_with_len}
-use Rattle.std.proofs.lemmas.Bool.{both_ways, eq-eqb, ne_eqb, and_parts, eqb-true, cases_Bool, not-true}
+use Rattle.mr_exchange.proofs.Common.{◌≡◌, ℕ, suc, ◌<◌, ◌≤◌, ◌+◌, ◌-◌, List, [], ◌∷◌, ◌++◌, length, Bool, true, false, not, ◌&&◌, refl, sym, ◌∙◌, ap, subst, inl, inr, arith, append_assoc, zero-add, ℕ_discrete, dec_lt, ◌==◌, filter, range_with_len, both_ways, eq-eqb, ne_eqb, and_parts, eqb-true, cases_Bool, not-true, Footprint, wakes, step_at, thread_at, places, Edge, HappensBefore, RacePair, in_thread, woken, dependent, edge, woken_before, last_edge, Edge-before, HappensBefore-before, some_race_sym, AreIndependent, Machine, Runs, IsFirstPair, Selects, IsReported}
 use Rattle.std.proofs.lemmas.List.Elements.{filter-append}
-use Rattle.mr_event.specs.Footprint.{Footprint}
-use Rattle.mr_event.specs.Footprints.{wakes}
-use Rattle.mr_event.specs.Order.{step_at, thread_at, places, Edge, HappensBefore, RacePair}
-use Rattle.mr_event.specs.Order.Edge.{in_thread, woken, dependent}
-use Rattle.mr_event.specs.Order.HappensBefore.{edge}
 use Rattle.mr_event.specs.Kept.{selected}
-use Rattle.mr_event.proofs.Ordered.{woken_before, last_edge, Edge-before, HappensBefore-before, some_race_sym}
 use Rattle.mr_exchange.specs.Shown.{AreAdjacent, steps_of, EveryChoiceShows}
-use Rattle.mr_exchange.specs.Trace.{AreIndependent, Machine, Runs, IsFirstPair, Selects, IsReported}
 use Rattle.mr_exchange.proofs.Lists.{Each, Ahead, Each-weaker, Each-filter, Ahead-with, Ahead-weaker, Each-places, Ahead-places, range_with_len-parts, filter-agree, filter-kept, filter-left_out, NoneBetween, AreAdjacent-with, Ends-with, AreAdjacent-push, AreAdjacent-gaps, Ends-gap}
 use Rattle.mr_exchange.proofs.Moves.{runs_kept, runs_parts, runs_joined, runs_moved_back}
 use Rattle.mr_exchange.proofs.Unordered.{independent_steps}

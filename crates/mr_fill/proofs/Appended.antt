@@ -1,5 +1,5 @@
 -- Texts that are written piece by piece.
-use Rattle.std.proofs.Common.{◌≡◌, ℕ, List, ◌++◌, append_assoc, ap, ◌∙◌}
+use Rattle.mr_fill.proofs.Common.{◌≡◌, ℕ, List, ◌++◌, append_assoc, ap, ◌∙◌}
 
 -- a piece behind the first ones
 pub behind : (old first piece now next : List ℕ) → now ≡ old ++ first → next ≡ now ++ piece

@@ -1,28 +1,16 @@
 -- The schedule that an order becomes: it is legal, and has the threads of the order.
-use Rattle.std.proofs.Common.{◌≡◌, ℕ, zero, suc, ◌+◌, refl, sym, ap, ◌∙◌, subst, List, [], ◌∷◌, length, map, take, Bool, true, false, Option, Some, None, Result, Ok, Err}
-use Rattle.std.specs.Prelude.{slice_get}
+use Rattle.mr_fill.proofs.Common.{◌≡◌, ℕ, zero, suc, ◌+◌, refl, sym, ap, ◌∙◌, subst, List, [], ◌∷◌, length, take, Bool, true, false, Option, Some, None, Result, Ok, Err, slice_get, Program, Chooser, Entry, WellFormed, Config, machine_step, Look, Own, thread_step, Legal, program_step, Next, Picked, start_picked, LiesBehind, AreOf, Filling, behind_entry, entry_at, filled, filled_from, filling, led, Halt, Turn}
+use Rattle.std.proofs.Common.{map}
 use Rattle.std.specs.Option.{option_map}
-use Rattle.mr_ast.specs.declared.program.Program.{Program}
-use Rattle.mr_sched.specs.declared.chooser.Chooser.{Chooser}
-use Rattle.mr_sched.specs.declared.schedule.Entry.{Entry}
-use Rattle.mr_typing.specs.Walk.{WellFormed}
-use Rattle.mr_step.specs.PlanRuns.{AreLegal, Config, machine_step}
+use Rattle.mr_step.specs.PlanRuns.{AreLegal}
 use Rattle.mr_start.specs.FrameFits.{IsLook}
-use Rattle.mr_start.specs.FrameFrames.{Look}
 use Rattle.mr_start.specs.SoundState.{IsSoundConfig}
-use Rattle.mr_start.specs.Steps.{Own, thread_step}
-use Rattle.mr_start.specs.Runs.{Legal, program_step}
 use Rattle.mr_start.specs.Start.{look_of, start_config}
 use Rattle.mr_start.proofs.StartSound.{start_look, start_sound}
-use Rattle.mr_auto.specs.Drawing.{Next, Picked, start_picked}
-use Rattle.mr_auto.specs.Drawn.{LiesBehind}
 use Rattle.mr_auto.proofs.StartFound.{start_found}
 use Rattle.mr_auto.proofs.Starts.{start_legal, start_lies}
-use Rattle.mr_fill.specs.Filled.{AreOf, EndsAt}
-use Rattle.mr_fill.specs.Filling.{Filling, behind_entry, entry_at, filled, filled_from, filling, led}
+use Rattle.mr_fill.specs.Filled.{EndsAt}
 use Rattle.mr_fill.specs.declared.filling.Filled.{Filled}
-use Rattle.mr_fill.specs.declared.filling.Halt.{Halt}
-use Rattle.mr_fill.specs.declared.order.Turn.{Turn}
 use Rattle.mr_fill.proofs.GivenSteps.{entry_keeps, entry_legal, entry_lies, taken_at}
 
 -- ---- legal

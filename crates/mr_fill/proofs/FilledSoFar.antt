@@ -1,24 +1,13 @@
 -- Taking one turn more.
-use Rattle.std.proofs.Common.{◌≡◌, ℕ, suc, ◌+◌, ◌<◌, ◌≤◌, refl, sym, ap, ◌∙◌, subst, arith, List, [], ◌∷◌, ◌++◌, append-nil, append_assoc, drop, get_or, length, false, Option, Some, None, Result, Ok, Err}
+use Rattle.mr_fill.proofs.Common.{◌≡◌, ℕ, suc, ◌+◌, ◌<◌, ◌≤◌, refl, sym, ap, ◌∙◌, subst, arith, List, [], ◌∷◌, ◌++◌, append-nil, append_assoc, drop, get_or, length, false, Option, Some, None, Result, Ok, Err, Chooser, Entry, Config, Look, Own, thread_step, program_step, Standing, Next, BeginsDrawing, FilledAfter, Filling, behind_entry, entry_at, filling, led, TurnAnswer, Halt, Turn}
 use Rattle.std.proofs.Math.Seq.{drop-cons}
-use Rattle.mr_sched.specs.declared.chooser.Chooser.{Chooser}
-use Rattle.mr_sched.specs.declared.schedule.Entry.{Entry}
-use Rattle.mr_step.specs.PlanRuns.{Config, after}
+use Rattle.mr_step.specs.PlanRuns.{after}
 use Rattle.mr_step.proofs.PlanRunLaws.{completed_by_step}
-use Rattle.mr_start.specs.FrameFrames.{Look}
-use Rattle.mr_start.specs.Steps.{Own, thread_step}
-use Rattle.mr_start.specs.Runs.{program_fault, program_step}
-use Rattle.mr_step.specs.Standing.{Standing}
+use Rattle.mr_start.specs.Runs.{program_fault}
 use Rattle.mr_run.specs.Runs.{IsMade}
-use Rattle.mr_auto.specs.Drawing.{Next}
-use Rattle.mr_auto.specs.Drawn.{BeginsDrawing}
 use Rattle.mr_auto.proofs.DrawnSoFar.{after_more, state_behind}
-use Rattle.mr_fill.specs.Filled.{FilledAfter, filling_here}
-use Rattle.mr_fill.specs.Filling.{Filling, behind_entry, entry_at, filling, led}
-use Rattle.mr_fill.specs.Turning.{TurnAnswer}
+use Rattle.mr_fill.specs.Filled.{filling_here}
 use Rattle.mr_fill.specs.declared.due.Due.TheVariants.{Broken, Takes}
-use Rattle.mr_fill.specs.declared.filling.Halt.{Halt}
-use Rattle.mr_fill.specs.declared.order.Turn.{Turn}
 use Rattle.mr_fill.proofs.GivenSteps.{entry_keeps, entry_legal, entry_lies, taken_at}
 
 -- these entries in front

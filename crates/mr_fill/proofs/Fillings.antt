@@ -1,18 +1,8 @@
 -- The whole order: its start line, and the run in which its turns are taken.
-use Rattle.std.proofs.Common.{◌≡◌, ℕ, ◌+◌, ◌<◌, ◌≤◌, ◌^◌, sym, ap, ◌∙◌, subst, arith, List, [], length, Option, Some, None}
-use Rattle.mr_ast.specs.declared.program.Program.{Program}
-use Rattle.mr_sched.specs.declared.schedule.Entry.{Entry}
-use Rattle.mr_typing.specs.Walk.{WellFormed}
-use Rattle.mr_start.specs.Runs.{Legal}
+use Rattle.mr_fill.proofs.Common.{◌≡◌, ℕ, ◌+◌, ◌<◌, ◌≤◌, ◌^◌, sym, ap, ◌∙◌, subst, arith, List, [], length, Option, Some, None, Program, Entry, WellFormed, Legal, Standing, Picked, start_picked, AreOf, FilledAfter, Filling, filled, filled_from, filling, Halt, Turn}
 use Rattle.mr_start.specs.Start.{look_of, start_config}
 use Rattle.mr_step.specs.Answers.{standing}
-use Rattle.mr_step.specs.Standing.{Standing}
-use Rattle.mr_auto.specs.Drawing.{Picked, start_picked}
-use Rattle.mr_fill.specs.Filled.{AreOf, FilledAfter}
-use Rattle.mr_fill.specs.Filling.{Filling, filled, filled_from, filling}
 use Rattle.mr_fill.specs.declared.filling.Filled.{Filled}
-use Rattle.mr_fill.specs.declared.filling.Halt.{Halt}
-use Rattle.mr_fill.specs.declared.order.Turn.{Turn}
 use Rattle.mr_fill.proofs.FilledLaws.{filled_legal, filled_of}
 
 abbrev pub schedule_with : List ℕ → List Entry → Option Halt → Filled

@@ -1,12 +1,9 @@
 -- Picks in front of those that are left.
-use Rattle.std.proofs.Common.{◌≡◌, ℕ, refl, sym, ap, ◌∙◌, List, [], ◌∷◌, ◌++◌, append-nil, append_assoc, Option, Some, None}
-use Rattle.mr_base.specs.declared.thread.Status.{Status}
-use Rattle.mr_sched.specs.declared.chooser.Chooser.{Chooser}
-use Rattle.mr_sched.specs.declared.schedule.Ask.{Ask}
+use Rattle.mr_fill.proofs.Common.{◌≡◌, ℕ, refl, sym, ap, ◌∙◌, List, [], ◌∷◌, ◌++◌, append-nil, append_assoc, Option, Some, None, Status, Chooser, Ask, Picked, behind_given, given}
 use Rattle.mr_auto.specs.Answers.{PickAnswer, PicksAnswer}
-use Rattle.mr_auto.specs.Drawing.{Picked, put}
+use Rattle.mr_auto.specs.Drawing.{put}
 use Rattle.mr_auto.proofs.PicksLeft.{behind_picks}
-use Rattle.mr_fill.specs.Filling.{behind_given, given, given_pick}
+use Rattle.mr_fill.specs.Filling.{given_pick}
 
 none_in_front : (o : Option Picked) → o ≡ behind_picks [] o
 none_in_front None = refl

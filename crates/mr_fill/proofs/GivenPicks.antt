@@ -1,24 +1,18 @@
 -- The picks of a turn meet what is asked, behind all that was picked before.
-use Rattle.std.proofs.Common.{◌≡◌, ℕ, zero, suc, ◌<◌, ◌≤◌, refl, sym, ap, ◌∙◌, subst, inl, inr, arith, List, [], ◌∷◌, length, Bool, true, false, Option, Some, None}
-use Rattle.std.specs.Prelude.{Contains, slice_get, if◌then◌else◌}
-use Rattle.std.specs.List.{filter, range_with_len}
-use Rattle.std.proofs.lemmas.Option.{same_Some}
-use Rattle.mr_base.specs.declared.thread.Status.{Status}
+use Rattle.mr_fill.proofs.Common.{◌≡◌, ℕ, zero, suc, ◌<◌, ◌≤◌, refl, sym, ap, ◌∙◌, subst, inl, inr, arith, List, [], ◌∷◌, length, Bool, true, false, Option, Some, None, Contains, slice_get, if◌then◌else◌, filter, same_Some, Status, Chooser, Ask, Picked, EndsBy, behind_given, given}
+use Rattle.std.specs.List.{range_with_len}
 use Rattle.mr_start.specs.MemMemory.{Ranges}
 use Rattle.mr_sched.specs.Chooser.{behind_address}
-use Rattle.mr_sched.specs.declared.chooser.Chooser.{Chooser}
-use Rattle.mr_sched.specs.declared.schedule.Ask.{Ask}
 use Rattle.mr_sched.specs.declared.schedule.Ask.TheVariants.{Address, Waiter}
 use Rattle.mr_start.specs.SyncTables.{on_lock}
 use Rattle.mr_step.proofs.PlanElementLaws.{Contains-nil}
 use Rattle.mr_step.specs.SwapMeets.{IsTaken, MeetsAfter, addresses}
 use Rattle.mr_step.proofs.SwapElementTests.{front_cases}
 use Rattle.mr_step.proofs.SwapMeetsLaws.{clear_from}
-use Rattle.mr_auto.specs.Drawing.{Picked, found, waiting_in}
-use Rattle.mr_auto.specs.Drawn.{EndsBy}
+use Rattle.mr_auto.specs.Drawing.{found, waiting_in}
 use Rattle.mr_auto.proofs.Addresses.{apart_behind, bytes_behind, found_is, not_bad}
 use Rattle.mr_auto.proofs.Picks.{ArePicks, put_some}
-use Rattle.mr_fill.specs.Filling.{behind_given, given, receiver_in}
+use Rattle.mr_fill.specs.Filling.{receiver_in}
 
 -- ---- the thread that gets a lock waits for it
 

@@ -1,24 +1,15 @@
 -- The entry of a turn is legal, and what is found next lies behind all that memory has then.
-use Rattle.std.proofs.Common.{◌≡◌, ℕ, ◌<◌, refl, sym, ap, ◌∙◌, subst, inl, inr, arith, List, [], ◌∷◌, Bool, true, false, Option, Some, None, Result, Ok, Err}
-use Rattle.std.specs.Prelude.{Contains, slice_get, if◌then◌else◌}
-use Rattle.std.proofs.lemmas.Option.{same_Some}
-use Rattle.mr_ast.specs.declared.program.Program.{Program}
+use Rattle.mr_fill.proofs.Common.{◌≡◌, ℕ, ◌<◌, refl, sym, ap, ◌∙◌, subst, inl, inr, arith, List, [], ◌∷◌, Bool, true, false, Option, Some, None, Result, Ok, Err, Contains, slice_get, if◌then◌else◌, same_Some, Program, Chooser, Ask, Entry, WellFormed, State, needs, Config, is_running, machine_step, Look, Own, thread_step, Next, Picked, EndsBy, LiesBehind, asked_entry, enabled_entry, entry_at, entry_from, entry_in, entry_with, given, is_surplus, missing_code, within_limits, Turn}
 use Rattle.mr_base.specs.declared.thread.Status.TheVariants.{Enabled}
 use Rattle.mr_start.specs.MemMemory.{ranges_of}
 use Rattle.mr_sched.specs.Rules.{code_of}
-use Rattle.mr_sched.specs.declared.chooser.Chooser.{Chooser}
-use Rattle.mr_sched.specs.declared.schedule.Ask.{Ask}
-use Rattle.mr_sched.specs.declared.schedule.Entry.{Entry}
 use Rattle.mr_start.specs.SyncTables.{is_enabled}
-use Rattle.mr_typing.specs.Walk.{WellFormed}
 use Rattle.mr_step.specs.PlanLegal.{Fault, count_of, creation_fault, else_fault, fault, needs_fault, picks_fault, state_fault, status_fault}
-use Rattle.mr_step.specs.PlanMachine.{Bare, Completed, Goes, IllFormedStep, Needs, State, Stops, bare, needs}
+use Rattle.mr_step.specs.PlanMachine.{Bare, Completed, Goes, IllFormedStep, Needs, Stops, bare}
 use Rattle.mr_step.specs.PlanNotes.{Notes}
-use Rattle.mr_step.specs.PlanRuns.{Config, after_bare, entry_fault, fault_in, is_running, machine_step, stepped_from}
+use Rattle.mr_step.specs.PlanRuns.{after_bare, entry_fault, fault_in, stepped_from}
 use Rattle.mr_step.proofs.PlanElementLaws.{Contains-nil}
 use Rattle.mr_start.specs.FrameFits.{IsLook}
-use Rattle.mr_start.specs.FrameFrames.{Look}
-use Rattle.mr_start.specs.Steps.{Own, thread_step}
 use Rattle.mr_start.proofs.RunSound.{entry_sound}
 use Rattle.mr_start.specs.SoundState.{IsSoundConfig, SoundState}
 use Rattle.mr_step.proofs.ExchangeSane.{sound_is_sane}
@@ -28,11 +19,7 @@ use Rattle.mr_step.proofs.SwapBareSteps.{needs_are, taken, whole, whole_run}
 use Rattle.mr_step.proofs.SwapMeetsLaws.{legal_of_meets, step_only}
 use Rattle.mr_step.proofs.SwapStepRuns.{memory_of}
 use Rattle.mr_step.proofs.EntryLaws.{enabled_is}
-use Rattle.mr_auto.specs.Drawing.{Next, Picked}
-use Rattle.mr_auto.specs.Drawn.{EndsBy, LiesBehind}
 use Rattle.mr_auto.proofs.Picks.{ArePicks}
-use Rattle.mr_fill.specs.Filling.{asked_entry, enabled_entry, entry_at, entry_from, entry_in, entry_with, given, is_surplus, missing_code, within_limits}
-use Rattle.mr_fill.specs.declared.order.Turn.{Turn}
 use Rattle.mr_fill.proofs.GivenPicks.{given_are}
 use Rattle.mr_sched.specs.declared.rule.ScheduleRule.TheVariants as rule
 

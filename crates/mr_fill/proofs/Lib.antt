@@ -1,4 +1,5 @@
 pub mod Appended
+mod Common
 pub mod FilledLaws
 pub mod FilledSoFar
 pub mod Fillings

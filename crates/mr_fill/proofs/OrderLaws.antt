@@ -1,13 +1,11 @@
 -- Reading an order line by line and word by word, as the code does.
-use Rattle.std.proofs.Common.{◌≡◌, ℕ, ◌+◌, ◌<◌, ◌≤◌, arith, option_copied, Bool, true, false, List, [], ◌∷◌, ◌++◌, length, Option, Some, None, Result, Ok, Err, refl, sym, ap, ◌∙◌}
-use Rattle.std.specs.Prelude.{◌==◌, not, if◌then◌else◌, IfSome}
+use Rattle.mr_fill.proofs.Common.{◌≡◌, ℕ, ◌+◌, ◌<◌, ◌≤◌, arith, option_copied, Bool, true, false, List, [], ◌∷◌, ◌++◌, length, Option, Some, None, Result, Ok, Err, refl, sym, ap, ◌∙◌, ◌==◌, not, if◌then◌else◌, filter, slice_split, Gives, parts_after, parts_at, Turn, given_of, is_blank, numbered_words, on_line, order_from, starred_of}
+use Rattle.std.specs.Prelude.{IfSome}
 use Rattle.std.specs.Borrow.{Bor}
-use Rattle.std.specs.List.{filter, slice_split}
 use Rattle.mr_sched.specs.declared.fault.SchedFault.{SchedFault}
 use Rattle.mr_sched.specs.declared.fault.SchedFault.TheVariants.{Bad, Memory}
-use Rattle.mr_sched.specs.Reading.{Fault, Gives, parts_after, parts_at}
-use Rattle.mr_fill.specs.declared.order.Turn.{Turn}
-use Rattle.mr_fill.specs.Orders.{given_of, is_blank, is_word, numbered_words, on_line, on_turns, order_from, starred_of, word_then, words_of}
+use Rattle.mr_sched.specs.Reading.{Fault}
+use Rattle.mr_fill.specs.Orders.{is_word, on_turns, word_then, words_of}
 use Rattle.mr_fill.specs.Reading.{blank_parts, word_or_none}
 
 -- how much is left behind a byte: nothing, or the byte and a text

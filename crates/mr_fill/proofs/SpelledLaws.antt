@@ -1,17 +1,16 @@
 -- A word is read as what it spells, and what is read of a word it spells.
-use Rattle.std.proofs.Common.{◌≡◌, ℕ, ◌^◌, ◌+◌, refl, sym, ap, ap₂, ◌∙◌, subst, arith, Bool, true, false, not, ◌&&◌, List, [], ◌∷◌, ◌++◌, length, Option, Some, None}
-use Rattle.std.specs.Prelude.{nat_lt, if◌then◌else◌, ◌==◌, ◌||◌, slice_index}
+use Rattle.mr_fill.proofs.Common.{◌≡◌, ℕ, ◌^◌, ◌+◌, refl, sym, ap, ap₂, ◌∙◌, subst, arith, Bool, true, false, not, List, [], ◌∷◌, ◌++◌, length, Option, Some, None, if◌then◌else◌, ◌==◌, same_Some, parts_at, given_of, starred_of, turns_of}
+use Rattle.std.proofs.Common.{◌&&◌}
+use Rattle.std.specs.Prelude.{nat_lt, ◌||◌, slice_index}
 use Rattle.std.specs.Char.{is_ascii_digit}
 use Rattle.std.specs.List.{join_with_byte, list_all}
 use Rattle.std.proofs.lemmas.Bool.{and_parts}
 use Rattle.std.proofs.lemmas.List.Splits.{join_with_byte-slice_split}
-use Rattle.std.proofs.lemmas.Option.{same_Some}
 use Rattle.mr_ast.specs.Words.{first_passes, is_number, value_of}
-use Rattle.mr_sched.specs.Reading.{parts_at}
 use Rattle.mr_sched.proofs.Parts.{IsFreeOf, parts_at-append, parts_at-free}
 use Rattle.mr_sched.proofs.WordLaws.{free-append}
 use Rattle.mr_fill.specs.declared.order.Turns.{Turns}
-use Rattle.mr_fill.specs.Orders.{alone, count_of, given_of, giving, max_turns, number_below, positive, repeated, starred_of, thread_of, turn_on, turns_of}
+use Rattle.mr_fill.specs.Orders.{alone, count_of, giving, max_turns, number_below, positive, repeated, thread_of, turn_on}
 use Rattle.mr_fill.specs.Spelled.{Spells, gives, many, one}
 
 -- ---- numbers have neither `*` nor `>`

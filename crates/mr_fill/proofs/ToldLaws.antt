@@ -1,13 +1,9 @@
 -- What a function answers of an order's text.
-use Rattle.std.proofs.Common.{◌≡◌, ℕ, List, ap, sym, ◌∙◌, Result, Ok, Err}
-use Rattle.mr_ast.specs.declared.program.Program.{Program}
+use Rattle.mr_fill.proofs.Common.{◌≡◌, ℕ, List, ap, sym, ◌∙◌, Result, Ok, Err, Program, Gives, filled, Turn}
 use Rattle.mr_sched.specs.declared.fault.SchedFault.{SchedFault}
 use Rattle.mr_sched.specs.declared.fault.SchedFault.TheVariants.{Bad, Memory}
-use Rattle.mr_sched.specs.Reading.{Gives}
-use Rattle.mr_fill.specs.Filling.{filled}
 use Rattle.mr_fill.specs.Orders.{order_of}
 use Rattle.mr_fill.specs.Told.{text_by, texts_from, texts_of}
-use Rattle.mr_fill.specs.declared.order.Turn.{Turn}
 use Rattle.mr_fill.specs.declared.told.FilledText.{FilledText}
 
 module _ (p : Program) (text : List ℕ) where

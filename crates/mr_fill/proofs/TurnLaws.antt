@@ -1,21 +1,10 @@
 -- The entry of a turn, from what the code finds.
-use Rattle.std.proofs.Common.{◌≡◌, ℕ, refl, sym, ap, ap₂, ◌∙◌, List, Bool, true, false, Option, Some, None, Result, Ok, Err}
-use Rattle.std.specs.Prelude.{slice_get, if◌then◌else◌}
+use Rattle.mr_fill.proofs.Common.{◌≡◌, ℕ, refl, sym, ap, ap₂, ◌∙◌, List, Bool, true, false, Option, Some, None, Result, Ok, Err, slice_get, if◌then◌else◌, Status, Chooser, Ask, State, needs, Config, is_running, Look, Own, thread_step, Next, asked_entry, enabled_entry, entry_at, entry_from, entry_in, entry_with, given, is_surplus, missing_code, within_limits, Turn}
 use Rattle.std.specs.Option.{option_map}
-use Rattle.mr_base.specs.declared.thread.Status.{Status}
 use Rattle.mr_sched.specs.Rules.{code_of}
-use Rattle.mr_sched.specs.declared.chooser.Chooser.{Chooser}
-use Rattle.mr_sched.specs.declared.rule.ScheduleRule.TheVariants as rule
-use Rattle.mr_sched.specs.declared.schedule.Ask.{Ask}
 use Rattle.mr_start.specs.SyncTables.{is_enabled}
 use Rattle.mr_step.specs.PlanLegal.{Fault, creation_fault}
-use Rattle.mr_step.specs.PlanMachine.{State, needs}
-use Rattle.mr_step.specs.PlanRuns.{Config, is_running}
-use Rattle.mr_start.specs.FrameFrames.{Look}
-use Rattle.mr_start.specs.Steps.{Own, thread_step}
-use Rattle.mr_auto.specs.Drawing.{Next}
-use Rattle.mr_fill.specs.Filling.{asked_entry, enabled_entry, entry_at, entry_from, entry_in, entry_with, given, is_surplus, missing_code, within_limits}
-use Rattle.mr_fill.specs.declared.order.Turn.{Turn}
+use Rattle.mr_sched.specs.declared.rule.ScheduleRule.TheVariants as rule
 
 -- a limit is reached
 pub limit_broken : (o : Option Fault) (next : Result Next ℕ) (code : ℕ) → Some code ≡ option_map (λ (f : Fault). f.code) o → within_limits o next ≡ Err code

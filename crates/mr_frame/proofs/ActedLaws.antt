@@ -1,49 +1,17 @@
 -- What the next step of a thread comes to, by what is due.
-use Rattle.std.proofs.Common.{◌≡◌, ℕ, refl, sym, ap, ◌∙◌, List, [], ◌∷◌, Option, None, Some}
-use Rattle.std.specs.Prelude.{slice_get}
-use Rattle.mr_base.specs.Stops.{plainly}
-use Rattle.mr_ast.specs.declared.expr.Value.{Value}
-use Rattle.mr_ast.specs.declared.program.BlockName.{BlockName}
-use Rattle.mr_ast.specs.declared.program.Function.{Function}
-use Rattle.mr_ast.specs.declared.program.Local.{Local}
-use Rattle.mr_ast.specs.declared.program.LocalName.{LocalName}
-use Rattle.mr_ast.specs.declared.program.Stmt.{Stmt}
+use Rattle.mr_frame.proofs.Common.{◌≡◌, ℕ, refl, sym, ap, ◌∙◌, List, [], ◌∷◌, Option, None, Some, slice_get, plainly, Value, BlockName, Function, Local, LocalName, Stmt, Num, Ty, Pointer, align_of, size_of, Memory, out-Val, Broken, Done, Outcome, Refused, Went, ◌>>=◌, on, run, run_bind, valued, Surround, value_script, Allocate, MemoryScript, memory_answer, reading_part, or_ill_formed, pointer_in, pointer_of_value, ReadScript, Seen, reading, seen_of, with_seen, World, on_then, reading_then, FramePlan, free_each, leave, local_type, return_from, return_value, IsChange, change, free_storage, acted, asked, asks_of, changed, chosen, pointed, there_or_broken, unstored, freed_each, left_by, returned, Frame, GoesOn, Look, Onward, Stack, at_block, scene_in, with_storage, with_top, IsReady, look_of, AtStatement, AtTerminator, Due, Site, site_of, StandsAt, switched, dead, frame_plan, live, next, plan_at, plan_due, on_itself}
+use Rattle.mr_base.specs.declared.reason.Reason.TheVariants.{Unreachable}
+use Rattle.mr_sched.specs.declared.schedule.Ask.TheVariants.{Address}
+use Rattle.mr_frame.specs.Calls.{stop}
+use Rattle.mr_frame.specs.Effects.{planned}
+use Rattle.mr_frame.specs.Frames.{Aborts, Exits}
 use Rattle.mr_ast.specs.declared.program.Stmt.TheVariants as stmt
 use Rattle.mr_ast.specs.declared.program.Term.TheVariants as term
-use Rattle.mr_ast.specs.declared.types.Num.{Num}
-use Rattle.mr_ast.specs.declared.types.Ty.{Ty}
 use Rattle.mr_base.specs.declared.byte.Kind.TheVariants.{Stack as OnStack}
-use Rattle.mr_base.specs.declared.byte.Pointer.{Pointer}
-use Rattle.mr_base.specs.declared.reason.Reason.TheVariants.{Unreachable}
-use Rattle.mr_layout.specs.Sizes.{align_of, size_of}
-use Rattle.mr_mem.specs.Memory.{Memory}
-use Rattle.mr_sched.specs.declared.schedule.Ask.TheVariants.{Address}
-use Rattle.mr_value.specs.declared.val.Val.{out-Val}
-use Rattle.mr_base.specs.Script.{Broken, Done, Outcome, Refused, Went, ◌>>=◌, on, run}
-use Rattle.mr_base.proofs.ScriptRuns.{run_bind}
-use Rattle.mr_eval.specs.Evaluated.{valued}
-use Rattle.mr_eval.specs.Evaluation.{Surround, value_script}
-use Rattle.mr_eval.specs.MemoryQueries.{Allocate, MemoryScript, memory_answer, reading_part}
-use Rattle.mr_eval.specs.Operators.{or_ill_formed, pointer_in, pointer_of_value}
-use Rattle.mr_eval.specs.Reads.{ReadScript, Seen, reading}
-use Rattle.mr_eval.specs.Tally.{seen_of, with_seen}
-use Rattle.mr_eval.specs.World.{World}
-use Rattle.mr_plan.proofs.ReadingRuns.{on_then, reading_then}
 use Rattle.mr_frame.specs.declared.look.Look.{Look as KeptLook}
-use Rattle.mr_frame.specs.Calls.{FramePlan, free_each, leave, local_type, return_from, return_value, stop}
-use Rattle.mr_frame.specs.Changes.{IsChange, change, free_storage}
-use Rattle.mr_frame.specs.Effects.{acted, asked, asks_of, changed, chosen, planned, pointed, there_or_broken, unstored}
-use Rattle.mr_frame.specs.Ending.{freed_each, left_by, returned}
-use Rattle.mr_frame.specs.Frames.{Aborts, Exits, Frame, GoesOn, Look, Onward, Stack, at_block, scene_in, with_storage, with_top}
-use Rattle.mr_frame.specs.Kept.{IsReady, look_of}
-use Rattle.mr_frame.specs.Sites.{AtStatement, AtTerminator, Due, Site, site_of}
-use Rattle.mr_frame.specs.Standing.{StandsAt}
-use Rattle.mr_frame.specs.Switches.{switched}
 use Rattle.mr_frame.proofs.Statements.{changes}
-use Rattle.mr_frame.specs.Steps.{dead, frame_plan, live, next, plan_at, plan_due}
 use Rattle.mr_frame.proofs.ChangeRuns.{left, makes_change}
 use Rattle.mr_frame.proofs.Frames.{site_is}
-use Rattle.mr_plan.proofs.SafetyLaws.{on_itself}
 
 -- ---- runs, by their parts
 

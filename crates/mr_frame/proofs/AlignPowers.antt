@@ -1,11 +1,7 @@
 -- The alignment of a type that breaks no rule is a power of two.
-use Rattle.std.proofs.Common.{◌≡◌, ℕ, true}
-use Rattle.std.specs.Prelude.{count_ones, nat_le, ◌==◌}
-use Rattle.std.proofs.lemmas.Bool.{and_parts}
-use Rattle.mr_ast.specs.declared.types.Ty.{Ty}
+use Rattle.mr_frame.proofs.Common.{◌≡◌, ℕ, true, nat_le, ◌==◌, and_parts, Ty, align_of, TypeOk}
+use Rattle.std.specs.Prelude.{count_ones}
 use Rattle.mr_layout.specs.Rules.{is_align}
-use Rattle.mr_layout.specs.Sizes.{align_of}
-use Rattle.mr_layout.specs.TypeOk.{TypeOk}
 use Rattle.mr_layout.proofs.Aligned.{type_ok_aligned}
 use Rattle.mr_mem.specs.Memory.{IsPowerOfTwo}
 use Rattle.mr_mem.proofs.Powers.{one_bit_power}

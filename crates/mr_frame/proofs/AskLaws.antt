@@ -1,44 +1,16 @@
 -- What a step that is no intrinsic asks for, by what is due.
-use Rattle.std.proofs.Common.{◌≡◌, ℕ, ◌+◌, ◌<◌, ◌≤◌, refl, sym, ap, ◌∙◌, subst, List, [], ◌∷◌, ◌++◌, length, drop, get_or, Option, None, Some, add-one, append-nil, append_assoc}
-use Rattle.std.proofs.Math.Seq.{drop-cons}
-use Rattle.std.proofs.lemmas.List.{drop_all}
-use Rattle.std.proofs.lemmas.Option.{same_Some}
-use Rattle.std.specs.Prelude.{All, slice_get}
-use Rattle.mr_ast.specs.declared.expr.Place.{Place}
-use Rattle.mr_ast.specs.declared.expr.Value.{Value}
-use Rattle.mr_ast.specs.declared.program.BlockName.{BlockName}
-use Rattle.mr_ast.specs.declared.program.Function.{Function}
-use Rattle.mr_ast.specs.declared.program.Local.{Local}
-use Rattle.mr_ast.specs.declared.program.LocalName.{LocalName}
-use Rattle.mr_ast.specs.declared.program.Stmt.{Stmt}
+use Rattle.mr_frame.proofs.Common.{◌≡◌, ℕ, ◌+◌, ◌<◌, ◌≤◌, refl, sym, ap, ◌∙◌, subst, List, [], ◌∷◌, ◌++◌, length, drop, get_or, Option, None, Some, add-one, append-nil, append_assoc, drop-cons, drop_all, same_Some, All, slice_get, Place, Value, BlockName, Function, Local, LocalName, Stmt, Term, Ty, Pointer, Ask, TypeOk, Memory, Seen, HasTypes, written_types, kept_types, storage_asks, asked, Frame, Look, Stack, IsReady, below_of, frame_of, look_of, stack_of, do_due, AtStatement, AtTerminator, NoDo, Site, due_term, kept_locals, Holds, IsDue, StandsAt, item_there, all_at}
+use Rattle.mr_frame.specs.Acting.{IsQuiet, NoCall, NoLive}
 use Rattle.mr_ast.specs.declared.program.Stmt.TheVariants as stmt
-use Rattle.mr_ast.specs.declared.program.Term.{Term}
 use Rattle.mr_ast.specs.declared.program.Term.TheVariants as term
-use Rattle.mr_ast.specs.declared.types.Ty.{Ty}
-use Rattle.mr_base.specs.declared.byte.Pointer.{Pointer}
-use Rattle.mr_sched.specs.declared.schedule.Ask.{Ask}
-use Rattle.mr_layout.specs.TypeOk.{TypeOk}
-use Rattle.mr_mem.specs.Memory.{Memory}
-use Rattle.mr_eval.specs.Reads.{Seen}
 use Rattle.mr_frame.specs.declared.look.Look.{Look as KeptLook}
 use Rattle.mr_frame.specs.declared.stack.Stack.{Stack as KeptStack}
-use Rattle.mr_frame.specs.Acting.{IsQuiet, NoCall, NoLive}
-use Rattle.mr_frame.specs.Beginning.{HasTypes}
-use Rattle.mr_frame.specs.Calling.{written_types}
-use Rattle.mr_frame.specs.Calls.{kept_types, storage_asks}
-use Rattle.mr_frame.specs.Effects.{asked}
-use Rattle.mr_frame.specs.Frames.{Frame, Look, Stack}
-use Rattle.mr_frame.specs.Kept.{IsReady, below_of, frame_of, look_of, stack_of}
-use Rattle.mr_frame.specs.Operations.{do_due}
-use Rattle.mr_frame.specs.Sites.{AtStatement, AtTerminator, NoDo, Site, due_term, kept_locals}
-use Rattle.mr_frame.specs.Standing.{Holds, IsDue, StandsAt}
 use Rattle.mr_frame.proofs.ActedLaws.{asked_change, asked_dead, asked_is, asked_live, site, stack}
 use Rattle.mr_frame.proofs.IntrinsicLaws.{next_do_is}
 use Rattle.mr_frame.proofs.Statements.{by_kind}
 use Rattle.mr_frame.proofs.BeginSteps.{first_typed, kept_known}
 use Rattle.mr_frame.proofs.StandLaws.{holds_below, live_holds}
 use Rattle.mr_frame.proofs.TypeRows.{none_there}
-use Rattle.mr_base.proofs.Lists.{item_there, all_at}
 
 -- ---- what the start of a function asks for, one local after another
 

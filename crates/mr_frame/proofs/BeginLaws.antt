@@ -1,32 +1,14 @@
 -- The start of a function, part by part.
-use Rattle.std.proofs.Common.{◌≡◌, ℕ, ◌+◌, refl, ap, ◌∙◌, subst, arith, true, List, [], ◌∷◌, ◌++◌, Option, None, Some}
-use Rattle.std.specs.Prelude.{if◌then◌else◌}
-use Rattle.std.specs.FinMap as fin
-use Rattle.mr_base.specs.Stops.{Stop}
-use Rattle.mr_ast.specs.declared.program.Function.{Function}
-use Rattle.mr_ast.specs.declared.types.Ty.{Ty}
-use Rattle.mr_base.specs.declared.byte.AllocId.{AllocId}
-use Rattle.mr_base.specs.declared.byte.Kind.TheVariants.{Stack as OnStack}
-use Rattle.mr_base.specs.declared.byte.Pointer.{Pointer}
-use Rattle.mr_layout.specs.Sizes.{align_of, size_of}
-use Rattle.mr_mem.specs.Memory.{allocated, fresh, pick_fault, range_fault, ranges_of, with_range}
+use Rattle.mr_frame.proofs.Common.{◌≡◌, ℕ, ◌+◌, refl, ap, ◌∙◌, subst, arith, true, List, [], ◌∷◌, ◌++◌, Option, None, Some, if◌then◌else◌, Stop, Function, Ty, AllocId, Pointer, align_of, size_of, allocated, fresh, pick_fault, range_fault, ranges_of, get_there, Val, Broken, Done, IllFormed, Outcome, Refused, Went, on, run, begins_regular, Allocate, memory_answer, next_id, World, picks_fault, on_then, CanAllocate, allocated_each, stored_each, allocate_each, behind_first, enter_at, enter_with, first_frame, kept_types, storage_asks, store_each, store, entered, stored_in}
+use Rattle.mr_mem.specs.Memory.{with_range}
 use Rattle.mr_mem.specs.declared.fault.PickFault.{PickFault}
 use Rattle.mr_mem.specs.declared.fault.PickFault.TheVariants.{BadAddress, Reused}
-use Rattle.mr_mem.proofs.Identities.{get_there}
 use Rattle.mr_mem.proofs.RangeLaws.{ranges-allocated}
-use Rattle.mr_value.specs.declared.val.Val.{Val}
-use Rattle.mr_base.specs.Script.{Broken, Done, IllFormed, Outcome, Refused, Went, on, run}
-use Rattle.mr_typing.specs.Walk.{begins_regular}
-use Rattle.mr_eval.specs.MemoryQueries.{Allocate, memory_answer, next_id}
-use Rattle.mr_eval.specs.World.{World}
-use Rattle.mr_plan.specs.Legal.{address_fault, else_fault, picks_fault}
+use Rattle.mr_plan.specs.Legal.{address_fault, else_fault}
 use Rattle.mr_plan.proofs.LegalLaws.{no_faults}
-use Rattle.mr_plan.proofs.ReadingRuns.{on_then}
-use Rattle.mr_frame.specs.Beginning.{CanAllocate, allocated_each, stored_each}
-use Rattle.mr_frame.specs.Calls.{allocate_each, behind_first, enter_at, enter_with, first_frame, kept_types, storage_asks, store_each}
-use Rattle.mr_frame.specs.Changes.{store}
-use Rattle.mr_frame.specs.Effects.{entered, stored_in}
 use Rattle.mr_frame.specs.Standing.{IsUncounted}
+use Rattle.std.specs.FinMap as fin
+use Rattle.mr_base.specs.declared.byte.Kind.TheVariants.{Stack as OnStack}
 use Rattle.mr_frame.proofs.ActedLaws.{memory_bind, on_same}
 
 -- ---- one allocation after another

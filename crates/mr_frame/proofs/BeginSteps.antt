@@ -1,36 +1,13 @@
 -- The start of a function, one of its locals after another: what is left at each.
-use Rattle.std.proofs.Common.{◌≡◌, ℕ, suc, ◌+◌, ◌<◌, ◌≤◌, refl, sym, ap, ◌∙◌, subst, arith, List, [], ◌∷◌, ◌++◌, length, map, drop, get_or, Option, Some, true, append-nil, append_assoc, add-one, length-drop}
-use Rattle.std.proofs.Math.Seq.{drop-cons}
-use Rattle.std.proofs.lemmas.List.{drop_all, length-map}
-use Rattle.std.proofs.lemmas.Option.{same_Some}
-use Rattle.std.specs.Option.{option_map}
-use Rattle.std.specs.Prelude.{All, slice_get}
-use Rattle.mr_base.specs.Stops.{Stop}
-use Rattle.mr_ast.specs.declared.program.Function.{Function}
-use Rattle.mr_ast.specs.declared.program.Local.{Local}
-use Rattle.mr_ast.specs.declared.program.LocalName.{LocalName}
-use Rattle.mr_ast.specs.declared.types.Ty.{Ty}
-use Rattle.mr_base.specs.declared.byte.Pointer.{Pointer}
-use Rattle.mr_mem.specs.Memory.{ranges_of}
-use Rattle.mr_value.specs.declared.val.Val.{Val}
-use Rattle.mr_value.specs.Shape.{has_shape}
-use Rattle.mr_base.specs.Script.{Outcome, Refused, Went, on}
+use Rattle.mr_frame.proofs.Common.{◌≡◌, ℕ, suc, ◌+◌, ◌<◌, ◌≤◌, refl, sym, ap, ◌∙◌, subst, arith, List, [], ◌∷◌, ◌++◌, length, map, drop, get_or, Option, Some, true, append-nil, append_assoc, add-one, length-drop, drop-cons, drop_all, length-map, same_Some, option_map, All, slice_get, Stop, Function, Local, LocalName, Ty, Pointer, ranges_of, Val, has_shape, Outcome, Refused, Went, on, HaveShapes, World, CanAllocate, HasTypes, allocated_each, stored_each, HasLocals, written_types, all_there, kept_types, local_type, storage_asks, stored_in, kept_locals, all_at, on_itself}
 use Rattle.mr_eval.proofs.ShapeOf.{shapes_length}
-use Rattle.mr_eval.specs.Shapes.{HaveShapes}
-use Rattle.mr_eval.specs.World.{World}
 use Rattle.mr_plan.proofs.LegalLaws.{picks_length}
-use Rattle.mr_frame.specs.Beginning.{CanAllocate, HasTypes, IsAllocated, allocated_each, stored_each}
-use Rattle.mr_frame.specs.Calling.{HasLocals, written_types}
-use Rattle.mr_frame.specs.Calls.{all_there, kept_types, local_type, storage_asks}
-use Rattle.mr_frame.specs.Effects.{stored_in}
-use Rattle.mr_frame.specs.Sites.{kept_locals}
+use Rattle.mr_frame.specs.Beginning.{IsAllocated}
 use Rattle.mr_frame.proofs.ActedLaws.{on_same}
 use Rattle.mr_frame.proofs.BeginLaws.{allocated_behind, first_can, next_allocated, next_stored, none_allocated, none_stored, rest_can, stop_stored}
 use Rattle.mr_frame.proofs.CallSafe.{all_within, types_there}
 use Rattle.mr_frame.proofs.Places.{AllWithin}
 use Rattle.mr_frame.proofs.TypeRows.{first_there, none_there}
-use Rattle.mr_base.proofs.Lists.{all_at}
-use Rattle.mr_plan.proofs.SafetyLaws.{on_itself}
 
 -- ---- types in a row
 

@@ -1,29 +1,11 @@
 -- The start of a function as a whole, from its parts.
-use Rattle.std.proofs.Common.{◌≡◌, ℕ, ◌+◌, refl, sym, ap, ◌∙◌, arith, List, [], ◌∷◌, length, drop, Option, None, Some}
-use Rattle.std.proofs.lemmas.Option.{same_Some}
-use Rattle.std.specs.Prelude.{replicate, slice_get}
-use Rattle.mr_base.specs.Stops.{Stop}
-use Rattle.mr_ast.specs.declared.program.Function.{Function}
-use Rattle.mr_ast.specs.declared.program.Program.{Program}
-use Rattle.mr_ast.specs.declared.types.Ty.{Ty}
-use Rattle.mr_base.specs.declared.byte.Pointer.{Pointer}
-use Rattle.mr_value.specs.declared.val.Val.{Val}
-use Rattle.mr_typing.specs.Walk.{WellFormed}
-use Rattle.mr_base.specs.Script.{Outcome, Refused, Went, on}
-use Rattle.mr_eval.specs.World.{World}
+use Rattle.mr_frame.proofs.Common.{◌≡◌, ℕ, ◌+◌, refl, sym, ap, ◌∙◌, arith, List, [], ◌∷◌, length, drop, Option, None, Some, same_Some, replicate, slice_get, Stop, Function, Program, Ty, Pointer, Val, WellFormed, Outcome, Refused, Went, on, World, CanBegin, HasTypes, allocated_each, stored_each, written_types, behind_first, first_frame, kept_types, with_each, entered, kept_locals, local_type, map}
 use Rattle.mr_frame.specs.declared.look.Look.{Look as KeptLook}
-use Rattle.mr_frame.specs.Beginning.{CanBegin, HasTypes, allocated_each, stored_each}
-use Rattle.mr_frame.specs.Calling.{written_types}
-use Rattle.mr_frame.specs.Calls.{behind_first, first_frame, kept_types, with_each}
-use Rattle.mr_frame.specs.Effects.{entered}
-use Rattle.mr_frame.specs.Sites.{kept_locals}
 use Rattle.mr_frame.proofs.BeginLaws.{entered_is}
 use Rattle.mr_frame.proofs.BeginSteps.{names_length}
 use Rattle.mr_frame.proofs.EnterLaws.{allocated_many}
 use Rattle.mr_frame.proofs.Frames.{Keeps, function_keeps}
 use Rattle.mr_frame.proofs.TypeRows.{first_there}
-use Rattle.mr_frame.specs.Calls.{local_type}
-use Rattle.std.specs.Prelude.{map}
 
 -- what a function of a well-formed program keeps are locals of it
 pub function_typed : (p : Program) → WellFormed p → (number : ℕ) (fn : Function) → slice_get p.functions number ≡ Some fn → HasTypes fn

@@ -1,44 +1,9 @@
 -- A call that is due in a well-formed program: what it is prepared with, and that the function can begin with it.
-use Rattle.std.proofs.Common.{◌≡◌, ℕ, ◌<◌, refl, sym, ap, ◌∙◌, arith, Bool, true, false, List, [], ◌∷◌, length, Option, Some}
-use Rattle.std.proofs.lemmas.List.Elements.{All-cons, All-nil}
-use Rattle.std.specs.List.{flat_map, list_all}
-use Rattle.std.specs.Option.{option_map}
-use Rattle.std.specs.Prelude.{Err, slice_get, ◌&&◌, ◌||◌, if◌then◌else◌}
-use Rattle.std.proofs.lemmas.Bool.{and_parts}
-use Rattle.mr_base.specs.Stops.{Stop, plainly, stop_with}
-use Rattle.mr_base.specs.declared.reached.Reached.{Reached}
-use Rattle.mr_ast.specs.Shaped.{is_optional_block, named_in}
-use Rattle.mr_ast.specs.ShapedValues.{Named, is_shaped_place, is_shaped_value}
-use Rattle.mr_ast.specs.declared.expr.Place.{Place}
-use Rattle.mr_ast.specs.declared.expr.Value.{Value}
-use Rattle.mr_ast.specs.declared.program.BlockName.{BlockName}
-use Rattle.mr_ast.specs.declared.program.Function.{Function}
-use Rattle.mr_ast.specs.declared.program.Program.{Program}
-use Rattle.mr_ast.specs.declared.program.Term.TheVariants as term
-use Rattle.mr_ast.specs.declared.types.Ty.{Ty}
-use Rattle.mr_base.specs.declared.byte.Pointer.{Pointer}
-use Rattle.mr_base.specs.declared.reason.Reason.TheVariants.{SignatureMismatch}
-use Rattle.mr_mem.specs.Memory.{Memory}
-use Rattle.mr_mem.specs.declared.fault.Fault.{Fault}
-use Rattle.mr_mem.specs.declared.fault.Fault.TheVariants as fault
-use Rattle.mr_value.specs.declared.val.Val.{Val}
-use Rattle.mr_typing.specs.Broken.{broken_in_value, surroundings}
-use Rattle.mr_typing.specs.Operands.{is_fn_ptr, is_raw}
-use Rattle.mr_typing.specs.Types.{type_of_value}
-use Rattle.mr_typing.proofs.NothingLaws.{both_nothing}
+use Rattle.mr_frame.proofs.Common.{◌≡◌, ℕ, ◌<◌, refl, sym, ap, ◌∙◌, arith, Bool, true, false, List, [], ◌∷◌, length, Option, Some, All-cons, All-nil, flat_map, list_all, option_map, Err, slice_get, ◌&&◌, ◌||◌, if◌then◌else◌, and_parts, Stop, plainly, stop_with, Reached, is_optional_block, named_in, Named, is_shaped_place, is_shaped_value, Place, Value, BlockName, Function, Program, Ty, Pointer, SignatureMismatch, Memory, Fault, Val, broken_in_value, surroundings, is_fn_ptr, is_raw, type_of_value, both_nothing, typed_call, Outcome, Refused, Went, on, Tells, env_surround, each_valued, placed, Surround, Seen, Env, ArgsIn, CallIn, HasLocals, Prepared, Prepares, TypedIn, called, called_function, called_with, prepared, both_there, callee_of, given_types, kept_types, same_types, pointed, Look, InProgram, TermIn, is_address}
 use Rattle.mr_typing.proofs.TypedLaws.{typed_value}
-use Rattle.mr_typing.proofs.TypedStmts.{typed_call}
-use Rattle.mr_base.specs.Script.{Outcome, Refused, Went, on}
-use Rattle.mr_eval.specs.Environment.{Tells, env_surround}
-use Rattle.mr_eval.specs.Evaluated.{each_valued, placed}
-use Rattle.mr_eval.specs.Evaluation.{Surround}
-use Rattle.mr_eval.specs.Reads.{Seen}
-use Rattle.mr_eval.specs.declared.env.Env.{Env}
-use Rattle.mr_frame.specs.Calling.{ArgsIn, CallIn, GivenIn, HasLocals, Prepared, Prepares, TypedIn, called, called_function, called_with, prepared}
-use Rattle.mr_frame.specs.Calls.{both_there, callee_of, given_types, kept_types, same_types}
-use Rattle.mr_frame.specs.Effects.{pointed}
-use Rattle.mr_frame.specs.Frames.{Look}
-use Rattle.mr_frame.specs.Inside.{InProgram, TermIn, is_address}
+use Rattle.mr_frame.specs.Calling.{GivenIn}
+use Rattle.mr_ast.specs.declared.program.Term.TheVariants as term
+use Rattle.mr_mem.specs.declared.fault.Fault.TheVariants as fault
 use Rattle.mr_frame.proofs.CallSafe.{position_below}
 use Rattle.mr_frame.proofs.CalleeLaws.{callee_is}
 use Rattle.mr_frame.proofs.FittingLaws.{args_known}

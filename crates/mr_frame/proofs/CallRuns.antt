@@ -1,37 +1,7 @@
 -- What a call comes to: first what it finds out, and then the callee's frame.
-use Rattle.std.proofs.Common.{◌≡◌, ℕ, refl, sym, ap, ◌∙◌, Bool, true, false, List, [], Option, None, Some}
-use Rattle.std.specs.Prelude.{slice_get, if◌then◌else◌}
-use Rattle.mr_base.specs.Stops.{plainly}
-use Rattle.mr_ast.specs.declared.expr.Place.{Place}
-use Rattle.mr_ast.specs.declared.expr.Value.{Value}
-use Rattle.mr_ast.specs.declared.program.BlockName.{BlockName}
-use Rattle.mr_ast.specs.declared.program.Function.{Function}
+use Rattle.mr_frame.proofs.Common.{◌≡◌, ℕ, refl, sym, ap, ◌∙◌, Bool, true, false, List, [], Option, None, Some, slice_get, if◌then◌else◌, plainly, Place, Value, BlockName, Function, Ty, Pointer, SignatureMismatch, Memory, Ask, Val, Broken, Done, Outcome, Refused, Undefined, Went, ◌>>=◌, on, run, run_bind, each_valued, placed, Surround, place_script, value_script, values_script, MemoryScript, memory_answer, pointer_of_value, Seen, reading, seen_of, with_seen, World, CreatesNothing, Plan, on_then, reading_then, Prepared, called, called_function, called_with, prepared, both_there, call, call_function, call_number, call_plan, callee_of, calling, enter, given_types, kept_types, same_types, storage_asks, acted, asked, asks_of, entered, pointed, Frame, GoesOn, Look, Onward, Stack, scene_in, IsReady, look_of, AtTerminator, Site, StandsAt}
 use Rattle.mr_ast.specs.declared.program.Term.TheVariants as term
-use Rattle.mr_ast.specs.declared.types.Ty.{Ty}
-use Rattle.mr_base.specs.declared.byte.Pointer.{Pointer}
-use Rattle.mr_base.specs.declared.reason.Reason.TheVariants.{SignatureMismatch}
-use Rattle.mr_mem.specs.Memory.{Memory}
-use Rattle.mr_sched.specs.declared.schedule.Ask.{Ask}
-use Rattle.mr_value.specs.declared.val.Val.{Val}
-use Rattle.mr_base.specs.Script.{Broken, Done, Outcome, Refused, Undefined, Went, ◌>>=◌, on, run}
-use Rattle.mr_base.proofs.ScriptRuns.{run_bind}
-use Rattle.mr_eval.specs.Evaluated.{each_valued, placed}
-use Rattle.mr_eval.specs.Evaluation.{Surround, place_script, value_script, values_script}
-use Rattle.mr_eval.specs.MemoryQueries.{MemoryScript, memory_answer}
-use Rattle.mr_eval.specs.Operators.{pointer_of_value}
-use Rattle.mr_eval.specs.Reads.{Seen, reading}
-use Rattle.mr_eval.specs.Tally.{seen_of, with_seen}
-use Rattle.mr_eval.specs.World.{World}
-use Rattle.mr_plan.specs.Machine.{CreatesNothing, Plan}
-use Rattle.mr_plan.proofs.ReadingRuns.{on_then, reading_then}
 use Rattle.mr_frame.specs.declared.look.Look.{Look as KeptLook}
-use Rattle.mr_frame.specs.Calling.{Prepared, called, called_function, called_with, prepared}
-use Rattle.mr_frame.specs.Calls.{both_there, call, call_function, call_number, call_plan, callee_of, calling, enter, given_types, kept_types, same_types, storage_asks}
-use Rattle.mr_frame.specs.Effects.{acted, asked, asks_of, entered, pointed}
-use Rattle.mr_frame.specs.Frames.{Frame, GoesOn, Look, Onward, Stack, scene_in}
-use Rattle.mr_frame.specs.Kept.{IsReady, look_of}
-use Rattle.mr_frame.specs.Sites.{AtTerminator, Site}
-use Rattle.mr_frame.specs.Standing.{StandsAt}
 use Rattle.mr_frame.proofs.ActedLaws.{acted_is, asked_is, memory_bind, on_same, pointed_run, site, stack}
 
 module _ (look : Look) (s : Stack) (at : Site) where

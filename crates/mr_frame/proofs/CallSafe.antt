@@ -1,60 +1,14 @@
 -- A call in a frame of a well-formed program is never ill-formed, and the frames fit again behind it; so does a function's first frame.
-use Rattle.std.proofs.Common.{◌≡◌, ℕ, suc, ◌+◌, ◌<◌, refl, sym, ap, ◌∙◌, subst, arith, List, [], ◌∷◌, length, Bool, true, false, Option, Some, None, map}
-use Rattle.std.proofs.lemmas.List.{length-replicate}
-use Rattle.std.proofs.lemmas.Option.{same_Some}
-use Rattle.std.specs.Prelude.{slice_get, ◌&&◌, if◌then◌else◌, replicate}
-use Rattle.std.specs.Option.{option_map}
-use Rattle.std.specs.List.{flat_map, list_all}
-use Rattle.std.proofs.lemmas.Bool.{and_parts}
-use Rattle.mr_base.specs.Stops.{plainly}
-use Rattle.mr_ast.specs.Shaped.{is_optional_block, is_shaped_term, named_in}
-use Rattle.mr_ast.specs.ShapedValues.{Named, is_shaped_place, is_shaped_value}
-use Rattle.mr_ast.specs.declared.expr.Place.{Place}
-use Rattle.mr_ast.specs.declared.expr.Value.{Value}
-use Rattle.mr_ast.specs.declared.program.BlockName.{BlockName}
-use Rattle.mr_ast.specs.declared.program.Function.{Function}
-use Rattle.mr_ast.specs.declared.program.Local.{Local}
-use Rattle.mr_ast.specs.declared.program.LocalName.{LocalName}
-use Rattle.mr_ast.specs.declared.program.Program.{Program}
-use Rattle.mr_ast.specs.declared.program.Term.TheVariants as term
-use Rattle.mr_ast.specs.declared.types.Ty.{Ty}
-use Rattle.mr_base.specs.declared.byte.Pointer.{Pointer}
-use Rattle.mr_base.specs.declared.reason.Reason.TheVariants.{SignatureMismatch}
-use Rattle.mr_value.specs.declared.val.Val.{Val, out-Val}
+use Rattle.mr_frame.proofs.Common.{◌≡◌, ℕ, suc, ◌+◌, ◌<◌, refl, sym, ap, ◌∙◌, subst, arith, List, [], ◌∷◌, length, Bool, true, false, Option, Some, None, map, length-replicate, same_Some, slice_get, ◌&&◌, if◌then◌else◌, replicate, option_map, flat_map, list_all, and_parts, plainly, is_optional_block, is_shaped_term, named_in, Named, is_shaped_place, is_shaped_value, Place, Value, BlockName, Function, Local, LocalName, Program, Ty, Pointer, SignatureMismatch, Val, out-Val, broken_in_parts, broken_in_value, sizes_of, surroundings, is_fn_ptr, same_type, type_of_place, type_of_value, WellFormed, begins_regular, fn_ptr_is, both_nothing, typed_call, Done, Undefined, IllFormed, ◌>>=◌, Surround, place_script, value_script, values_script, pointer_in, pointer_of_value, IsSafe, Stands, any_result, around, place_safe, value_safe, Shaped, safe_found, safe_then, HaveShapes, CreatesNothing, IsSafeChange, change_then, store, all_there, allocate_each, behind_first, both_there, call, call_function, call_number, call_plan, callee_of, calling, enter, enter_at, enter_with, first_frame, given_types, kept_types, local_type, position_from, same_pointer, same_types, storage_asks, store_each, AreCalling, FitsFrame, FitsOnward, IsCalling, IsLook, IsSafePlan, Frame, GoesOn, Look, Stack, scene_in, Site, kept_locals, item_there, all_at}
 use Rattle.mr_value.specs.declared.val.Val.TheOpen.{Val-F}
-use Rattle.mr_value.specs.declared.val.Val.TheVariants as val
 use Rattle.mr_value.proofs.ShapeLaws.{shape_fn_ptr}
-use Rattle.mr_typing.specs.Blocks.{broken_in_parts}
-use Rattle.mr_typing.specs.Broken.{broken_in_value, sizes_of, surroundings}
-use Rattle.mr_typing.specs.Operands.{is_fn_ptr}
-use Rattle.mr_typing.specs.SameTypes.{same_type}
-use Rattle.mr_typing.specs.Types.{type_of_place, type_of_value}
-use Rattle.mr_typing.specs.Walk.{WellFormed, begins_regular}
 use Rattle.mr_typing.proofs.ExprWalk.{Judges}
-use Rattle.mr_typing.proofs.KindLaws.{fn_ptr_is}
-use Rattle.mr_typing.proofs.NothingLaws.{both_nothing}
 use Rattle.mr_typing.proofs.SameTypeLaws.{same_type_equal}
-use Rattle.mr_typing.proofs.TypedStmts.{typed_call}
-use Rattle.mr_base.specs.Script.{Done, Undefined, IllFormed, ◌>>=◌}
-use Rattle.mr_eval.specs.Evaluation.{Surround, place_script, value_script, values_script}
-use Rattle.mr_eval.specs.Operators.{pointer_in, pointer_of_value}
-use Rattle.mr_eval.specs.Sound.{IsSafe, Stands, any_result, around}
-use Rattle.mr_eval.proofs.ExprSafe.{place_safe, value_safe}
-use Rattle.mr_eval.proofs.OperatorsSafe.{Shaped}
-use Rattle.mr_eval.proofs.SafeLaws.{safe_found, safe_then}
-use Rattle.mr_eval.specs.Shapes.{HaveShapes}
-use Rattle.mr_plan.specs.Machine.{CreatesNothing}
-use Rattle.mr_plan.specs.Safety.{IsSafeChange}
-use Rattle.mr_plan.proofs.SafetyLaws.{change_then}
+use Rattle.mr_ast.specs.declared.program.Term.TheVariants as term
+use Rattle.mr_value.specs.declared.val.Val.TheVariants as val
 use Rattle.mr_frame.proofs.ChangesSafe.{store_safe}
-use Rattle.mr_frame.specs.Changes.{store}
-use Rattle.mr_frame.specs.Calls.{all_there, allocate_each, behind_first, both_there, call, call_function, call_number, call_plan, callee_of, calling, enter, enter_at, enter_with, first_frame, given_types, kept_types, local_type, position_from, same_pointer, same_types, storage_asks, store_each}
-use Rattle.mr_frame.specs.Fits.{AreCalling, FitsFrame, FitsOnward, IsCalling, IsLook, IsSafePlan}
-use Rattle.mr_frame.specs.Frames.{Frame, GoesOn, Look, Stack, scene_in}
-use Rattle.mr_frame.specs.Sites.{Site, kept_locals}
 use Rattle.mr_frame.proofs.Frames.{Keeps, function_keeps, here, stands}
 use Rattle.mr_frame.proofs.Places.{AllWithin, each_has, length-with_each}
-use Rattle.mr_base.proofs.Lists.{item_there, all_at}
 
 -- ---- values in a row
 

@@ -1,56 +1,14 @@
 -- A call that is due can be prepared, and then the function can begin: the values have the shapes of its types, and the picks are lawful for its
 -- storage.
-use Rattle.std.proofs.Common.{◌≡◌, ℕ, ◌+◌, ◌<◌, ◌≤◌, ◌^◌, refl, sym, ap, ◌∙◌, subst, arith, Bool, true, false, List, [], ◌∷◌, length, map, Option, None, Some}
-use Rattle.std.specs.List.{list_all}
-use Rattle.std.specs.Option.{option_map}
-use Rattle.std.specs.Prelude.{slice_get, ◌&&◌, if◌then◌else◌}
-use Rattle.std.proofs.lemmas.Bool.{and_parts}
-use Rattle.mr_base.specs.Stops.{Stop}
-use Rattle.mr_base.specs.Stops.{plainly}
-use Rattle.mr_ast.specs.Shaped.{is_optional_block, is_shaped_term, named_in}
-use Rattle.mr_ast.specs.ShapedValues.{Named, is_shaped_place, is_shaped_value}
-use Rattle.mr_ast.specs.declared.expr.Place.{Place}
-use Rattle.mr_ast.specs.declared.expr.Value.{Value}
-use Rattle.mr_ast.specs.declared.program.Function.{Function}
-use Rattle.mr_ast.specs.declared.program.Program.{Program}
-use Rattle.mr_ast.specs.declared.program.Term.{Term}
-use Rattle.mr_ast.specs.declared.program.Term.TheVariants as term
-use Rattle.mr_ast.specs.declared.types.Ty.{Ty}
-use Rattle.mr_base.specs.declared.byte.Pointer.{Pointer}
-use Rattle.mr_base.specs.declared.reason.Reason.TheVariants.{SignatureMismatch}
-use Rattle.mr_mem.specs.Memory.{Memory, ranges_of}
-use Rattle.mr_sched.specs.declared.schedule.Ask.{Ask}
-use Rattle.mr_value.specs.declared.val.Val.{Val}
-use Rattle.mr_typing.specs.Blocks.{broken_in_parts}
-use Rattle.mr_typing.specs.Broken.{sizes_of, surroundings}
-use Rattle.mr_typing.specs.Types.{type_of_value}
-use Rattle.mr_typing.proofs.TypedStmts.{typed_call}
-use Rattle.mr_base.specs.Script.{Broken, Outcome, Refused, Went, on, run}
-use Rattle.mr_eval.specs.Answers.{seen}
-use Rattle.mr_eval.specs.Evaluated.{each_valued, placed}
-use Rattle.mr_eval.specs.Evaluation.{Surround, values_script}
-use Rattle.mr_eval.specs.Reads.{Seen, reading}
-use Rattle.mr_eval.specs.Sound.{Comes, Stands}
-use Rattle.mr_eval.specs.Tally.{seen_of, with_seen}
-use Rattle.mr_eval.specs.World.{World, tally_of}
-use Rattle.mr_eval.specs.declared.env.Env.{Env}
-use Rattle.mr_eval.specs.declared.scene.Scene.{Scene}
+use Rattle.mr_frame.proofs.Common.{◌≡◌, ℕ, ◌+◌, ◌<◌, ◌≤◌, ◌^◌, refl, sym, ap, ◌∙◌, subst, arith, Bool, true, false, List, [], ◌∷◌, length, map, Option, None, Some, list_all, option_map, slice_get, ◌&&◌, if◌then◌else◌, and_parts, Stop, plainly, is_optional_block, is_shaped_term, named_in, Named, is_shaped_place, is_shaped_value, Place, Value, Function, Program, Term, Ty, Pointer, SignatureMismatch, Memory, ranges_of, Ask, Val, broken_in_parts, sizes_of, surroundings, type_of_value, typed_call, Broken, Outcome, Refused, Went, on, run, seen, each_valued, placed, Surround, values_script, Seen, reading, Stands, seen_of, with_seen, World, tally_of, Env, Scene, HaveShapes, picks_fault, AreLawful, CanBegin, CallIn, Prepared, called, called_function, called_with, prepared, behind_first, both_there, callee_of, given_types, kept_types, same_types, storage_asks, acted, asked, entered, pointed, FitsFrame, IsLook, GoesOn, Look, scene_in, InProgram, AtTerminator}
+use Rattle.mr_eval.specs.Sound.{Comes}
 use Rattle.mr_eval.proofs.SafeRuns.{safe_comes}
 use Rattle.mr_eval.proofs.ShapeOf.{shapes_length}
-use Rattle.mr_eval.specs.Shapes.{HaveShapes}
-use Rattle.mr_plan.specs.Legal.{picks_fault}
+use Rattle.mr_frame.specs.Acting.{IsDueCall}
+use Rattle.mr_ast.specs.declared.program.Term.TheVariants as term
 use Rattle.mr_frame.specs.declared.look.Look.{Look as KeptLook}
 use Rattle.mr_frame.specs.declared.stack.Stack.{Stack as KeptStack}
-use Rattle.mr_frame.specs.Acting.{AreLawful, IsDueCall}
-use Rattle.mr_frame.specs.Beginning.{CanBegin}
-use Rattle.mr_frame.specs.Calling.{CallIn, Prepared, called, called_function, called_with, prepared}
-use Rattle.mr_frame.specs.Calls.{behind_first, both_there, callee_of, given_types, kept_types, same_types, storage_asks}
-use Rattle.mr_frame.specs.Effects.{acted, asked, entered, pointed}
-use Rattle.mr_frame.specs.Fits.{FitsFrame, IsLook}
-use Rattle.mr_frame.specs.Frames.{GoesOn, Look, scene_in}
-use Rattle.mr_frame.specs.Inside.{InProgram}
 use Rattle.mr_frame.specs.Kept.{below_of as under, frame_of, look_of, stack_of}
-use Rattle.mr_frame.specs.Sites.{AtTerminator}
 use Rattle.mr_frame.proofs.CallLaws.{call_in}
 use Rattle.mr_frame.proofs.CallRuns.{acted_call, asked_call, prepared_asks}
 use Rattle.mr_frame.proofs.CallSafe.{equal_types, judged_there, row_safe}

@@ -1,9 +1,5 @@
 -- The function for which a pointer stands, pointer by pointer.
-use Rattle.std.proofs.Common.{◌≡◌, ℕ, suc, ◌+◌, ◌<◌, true, false, refl, sym, ap, ◌∙◌, List, length, drop, get_or, Some, add-one}
-use Rattle.std.specs.Prelude.{if◌then◌else◌}
-use Rattle.std.proofs.Math.Seq.{drop-cons}
-use Rattle.mr_base.specs.declared.byte.Pointer.{Pointer}
-use Rattle.mr_frame.specs.Calls.{callee_of, position_from, same_pointer}
+use Rattle.mr_frame.proofs.Common.{◌≡◌, ℕ, suc, ◌+◌, ◌<◌, true, false, refl, sym, ap, ◌∙◌, List, length, drop, get_or, Some, add-one, if◌then◌else◌, drop-cons, Pointer, callee_of, position_from, same_pointer}
 
 pub callee_is : (fs : List Pointer) (p : Pointer) → callee_of fs p ≡ position_from 0 fs p
 unfolding callee_of

@@ -1,39 +1,10 @@
 -- What the script of a statement comes to: a change of memory, noted.
-use Rattle.std.proofs.Common.{◌≡◌, ℕ, refl, ap, ◌∙◌, List, [], ◌∷◌, Option, None, Some, Bool, true, false}
-use Rattle.std.specs.Prelude.{Result, Ok, Err, if◌then◌else◌}
-use Rattle.mr_mem.specs.declared.fault.Fault.{Fault}
-use Rattle.mr_mem.specs.declared.fault.Fault.TheVariants as fault
-use Rattle.mr_base.specs.declared.reached.Reached.{Reached}
-use Rattle.mr_eval.specs.Environment.{Leaves, Tells}
-use Rattle.mr_ast.specs.declared.types.Num.{Num}
-use Rattle.mr_ast.specs.declared.types.Tag.{Tag}
-use Rattle.mr_ast.specs.declared.types.Ty.{Ty}
-use Rattle.mr_ast.specs.declared.expr.Place.{Place}
-use Rattle.mr_ast.specs.declared.expr.Value.{Value}
-use Rattle.mr_ast.specs.declared.program.Stmt.{Stmt}
-use Rattle.mr_ast.specs.declared.program.Stmt.TheVariants as stmt
-use Rattle.mr_base.specs.declared.byte.Pointer.{Pointer}
-use Rattle.mr_layout.specs.Sizes.{align_of, size_of}
-use Rattle.mr_mem.specs.Memory.{Memory}
-use Rattle.mr_value.specs.declared.val.Val.{Val}
-use Rattle.mr_value.specs.Encode.{blank, encoding_of, tag_bytes}
-use Rattle.mr_value.specs.Shape.{has_shape}
+use Rattle.mr_frame.proofs.Common.{◌≡◌, ℕ, refl, ap, ◌∙◌, List, [], ◌∷◌, Option, None, Some, Bool, true, false, Result, Ok, Err, if◌then◌else◌, Fault, Reached, Leaves, Tells, Num, Tag, Ty, Place, Value, Stmt, Pointer, align_of, size_of, Memory, Val, blank, encoding_of, tag_bytes, has_shape, type_of_place, Done, IllFormed, Outcome, Went, Refused, Broken, ◌>>=◌, on, run, run_bind, Surround, place_script, value_script, placed, read_typed, valued, behind, Seen, reading, stored_typed, storing, loading, seen_of, with_seen, memory_answer, reading_part, World, Change, IsChange, assign, change, deinit, mention, set_discriminant, store, tags_in, validate, with_type, write, write_found, write_tags, stored_in, Left, assigned, changed, stored_at, tagged, reading_then}
 use Rattle.mr_value.specs.Numbers.{Bytes}
-use Rattle.mr_typing.specs.Types.{type_of_place}
-use Rattle.mr_base.specs.Script.{Done, IllFormed, Outcome, Went, Refused, Broken, ◌>>=◌, on, run}
-use Rattle.mr_base.proofs.ScriptRuns.{run_bind}
-use Rattle.mr_eval.specs.Evaluation.{Surround, place_script, value_script}
-use Rattle.mr_eval.specs.Evaluated.{placed, read_typed, valued}
-use Rattle.mr_eval.specs.Moves.{behind}
-use Rattle.mr_eval.specs.Reads.{Seen, reading}
-use Rattle.mr_eval.specs.Stores.{stored_typed, storing}
-use Rattle.mr_eval.specs.Typed.{loading}
-use Rattle.mr_eval.specs.Tally.{seen_of, with_seen}
-use Rattle.mr_eval.specs.MemoryQueries.{memory_answer, reading_part}
-use Rattle.mr_eval.specs.World.{World}
-use Rattle.mr_frame.specs.Changes.{Change, IsChange, assign, change, deinit, mention, set_discriminant, store, tags_in, validate, validate_at, with_type, write, write_found, write_tags}
-use Rattle.mr_frame.specs.Effects.{stored_in, Left, assigned, changed, deinited, deinited_at, discriminated, mentioned, stored_at, tagged, tagged_at, shaped_store, validated, validated_at}
-use Rattle.mr_plan.proofs.ReadingRuns.{reading_then}
+use Rattle.mr_frame.specs.Changes.{validate_at}
+use Rattle.mr_frame.specs.Effects.{deinited, deinited_at, discriminated, mentioned, tagged_at, shaped_store, validated, validated_at}
+use Rattle.mr_mem.specs.declared.fault.Fault.TheVariants as fault
+use Rattle.mr_ast.specs.declared.program.Stmt.TheVariants as stmt
 
 -- memory and tally behind a change of memory
 abbrev pub left : World → Memory → Seen → Outcome (Unit {0}) World

@@ -1,44 +1,7 @@
 -- The change of a statement that breaks no rule is never ill-formed.
-use Rattle.std.proofs.Common.{◌≡◌, ℕ, Bool, true, false, List, [], ◌∷◌, Option, None, Some, refl, sym, ◌∙◌, subst}
-use Rattle.std.specs.Prelude.{is_some, if◌then◌else◌}
-use Rattle.std.proofs.lemmas.Option.{same_Some}
-use Rattle.std.proofs.lemmas.Bool.{and_parts}
-use Rattle.mr_ast.specs.Shaped.{is_shaped_stmt}
-use Rattle.mr_ast.specs.ShapedTypes.{is_shaped_num}
-use Rattle.mr_ast.specs.ShapedValues.{Named, is_shaped_place, is_shaped_value}
-use Rattle.mr_ast.specs.declared.types.Num.{Num}
-use Rattle.mr_ast.specs.declared.types.Tag.{Tag}
-use Rattle.mr_ast.specs.declared.types.Ty.{Ty, out-Ty}
-use Rattle.mr_ast.specs.declared.types.Ty.TheOpen.{Ty-F}
-use Rattle.mr_ast.specs.declared.types.Variant.{Variant}
-use Rattle.mr_ast.specs.declared.expr.Place.{Place}
-use Rattle.mr_ast.specs.declared.expr.Value.{Value}
-use Rattle.mr_ast.specs.declared.program.Function.{Function}
-use Rattle.mr_ast.specs.declared.program.Stmt.{Stmt}
+use Rattle.mr_frame.proofs.Common.{◌≡◌, ℕ, Bool, true, false, List, [], ◌∷◌, Option, None, Some, refl, sym, ◌∙◌, subst, is_some, if◌then◌else◌, same_Some, and_parts, is_shaped_stmt, is_shaped_num, Named, is_shaped_place, is_shaped_value, Num, Tag, Ty, out-Ty, Ty-F, Variant, Place, Value, Function, Stmt, Pointer, same_num, align_of, size_of, TypeOk, Val, blank, encoding_of, tag_bytes, has_shape, broken_in_stmt, broken_in_place, broken_in_value, tags_among, tags_layer, type_of_place, type_of_value, variant_type, typed_assign, typed_disc_stmt, IllFormed, ◌>>=◌, reading_part, Surround, place_script, value_script, behind, Stands, any_result, around, loading, place_safe, value_safe, Shaped, loading_safe, IsSafeChange, change_then, read_then, IsChange, Change, assign, change, deinit, free_storage, mention, set_discriminant, store, tags_in, validate, with_type, write, write_found, write_tags}
+use Rattle.mr_typing.specs.Types.{variant_among, variant_in}
 use Rattle.mr_ast.specs.declared.program.Stmt.TheVariants as stmt
-use Rattle.mr_base.specs.declared.byte.Pointer.{Pointer}
-use Rattle.mr_layout.specs.EnumRules.{same_num}
-use Rattle.mr_layout.specs.Sizes.{align_of, size_of}
-use Rattle.mr_layout.specs.TypeOk.{TypeOk}
-use Rattle.mr_value.specs.declared.val.Val.{Val}
-use Rattle.mr_value.specs.Encode.{blank, encoding_of, tag_bytes}
-use Rattle.mr_value.specs.Shape.{has_shape}
-use Rattle.mr_typing.specs.Blocks.{broken_in_stmt}
-use Rattle.mr_typing.specs.Broken.{broken_in_place, broken_in_value}
-use Rattle.mr_typing.specs.Types.{tags_among, tags_layer, type_of_place, type_of_value, variant_among, variant_in, variant_type}
-use Rattle.mr_typing.proofs.TypedStmts.{typed_assign, typed_disc_stmt}
-use Rattle.mr_base.specs.Script.{IllFormed, ◌>>=◌}
-use Rattle.mr_eval.specs.MemoryQueries.{reading_part}
-use Rattle.mr_eval.specs.Evaluation.{Surround, place_script, value_script}
-use Rattle.mr_eval.specs.Moves.{behind}
-use Rattle.mr_eval.specs.Sound.{Stands, any_result, around}
-use Rattle.mr_eval.specs.Typed.{loading}
-use Rattle.mr_eval.proofs.ExprSafe.{place_safe, value_safe}
-use Rattle.mr_eval.proofs.OperatorsSafe.{Shaped}
-use Rattle.mr_eval.proofs.SafeLaws.{loading_safe}
-use Rattle.mr_plan.specs.Safety.{IsSafeChange}
-use Rattle.mr_plan.proofs.SafetyLaws.{change_then, read_then}
-use Rattle.mr_frame.specs.Changes.{IsChange, Change, assign, change, deinit, free_storage, mention, set_discriminant, store, tags_in, validate, with_type, write, write_found, write_tags}
 
 -- ---- parts
 

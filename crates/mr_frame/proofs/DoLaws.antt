@@ -1,50 +1,10 @@
 -- An intrinsic that is due: what it is given, and how it ends, part by part.
-use Rattle.std.proofs.Common.{◌≡◌, ℕ, ◌+◌, ◌<◌, ◌≤◌, refl, sym, ap, ◌∙◌, subst, true, List, [], ◌∷◌, ◌++◌, length, map, drop, get_or, Option, None, Some, add-one, append-nil, append_assoc}
-use Rattle.std.proofs.Math.Seq.{drop-cons}
-use Rattle.std.proofs.lemmas.List.{drop_all}
-use Rattle.std.proofs.lemmas.List.Elements.{All-cons, All-head, All-nil, All-tail}
-use Rattle.std.proofs.lemmas.Option.{same_Some}
-use Rattle.std.specs.List.{flat_map, list_all}
-use Rattle.std.specs.Option.{option_map}
-use Rattle.std.specs.Prelude.{All, ◌&&◌}
-use Rattle.std.proofs.lemmas.Bool.{and_parts}
-use Rattle.mr_base.specs.Stops.{Stop}
-use Rattle.mr_ast.specs.Shaped.{is_block, is_optional_place, named_in}
-use Rattle.mr_ast.specs.ShapedValues.{is_shaped_value}
-use Rattle.mr_ast.specs.declared.expr.Place.{Place}
-use Rattle.mr_ast.specs.declared.expr.Value.{Value}
-use Rattle.mr_ast.specs.declared.program.BlockName.{BlockName}
-use Rattle.mr_ast.specs.declared.program.Function.{Function}
-use Rattle.mr_ast.specs.declared.program.Intrinsic.{Intrinsic}
-use Rattle.mr_ast.specs.declared.program.Term.TheVariants as term
-use Rattle.mr_ast.specs.declared.types.Ty.{Ty}
-use Rattle.mr_base.specs.declared.byte.Pointer.{Pointer}
-use Rattle.mr_mem.specs.Memory.{Memory}
-use Rattle.mr_value.specs.declared.val.Val.{Val}
-use Rattle.mr_typing.specs.Blocks.{broken_in_result}
-use Rattle.mr_typing.specs.Broken.{broken_in_value, surroundings}
-use Rattle.mr_typing.specs.Types.{type_of_place, type_of_value}
+use Rattle.mr_frame.proofs.Common.{◌≡◌, ℕ, ◌+◌, ◌<◌, ◌≤◌, refl, sym, ap, ◌∙◌, subst, true, List, [], ◌∷◌, ◌++◌, length, map, drop, get_or, Option, None, Some, add-one, append-nil, append_assoc, drop-cons, drop_all, All-cons, All-head, All-nil, All-tail, same_Some, flat_map, list_all, option_map, All, ◌&&◌, and_parts, Stop, is_block, is_optional_place, named_in, is_shaped_value, Place, Value, BlockName, Function, Intrinsic, Ty, Pointer, Memory, Val, broken_in_result, broken_in_value, surroundings, type_of_place, type_of_value, both_nothing, typed_do, Done, Outcome, Refused, Went, ◌>>=◌, on, run, run_bind, env_surround, each_valued, placed, Surround, place_script, values_script, or_ill_formed, ReadScript, Seen, reading, World, Env, arg_types, all_there, both_there, PlainIn, ResultIn, given_operands, is_plain, result_stored, finished, stored_in, Look, Stack, at_block, scene_in, with_top, InProgram, TermIn, DueDo, Operands, done_stack, result_place, result_type, store_result, Site}
 use Rattle.mr_typing.proofs.ExprWalk.{Judges}
-use Rattle.mr_typing.proofs.NothingLaws.{both_nothing}
 use Rattle.mr_typing.proofs.StmtWalk.{Gives}
-use Rattle.mr_typing.proofs.TypedStmts.{typed_do}
-use Rattle.mr_base.specs.Script.{Done, Outcome, Refused, Went, ◌>>=◌, on, run}
-use Rattle.mr_base.proofs.ScriptRuns.{run_bind}
-use Rattle.mr_eval.specs.Environment.{env_surround}
-use Rattle.mr_eval.specs.Evaluated.{each_valued, placed}
-use Rattle.mr_eval.specs.Evaluation.{Surround, place_script, values_script}
-use Rattle.mr_eval.specs.Operators.{or_ill_formed}
-use Rattle.mr_eval.specs.Reads.{ReadScript, Seen, reading}
-use Rattle.mr_eval.specs.World.{World}
-use Rattle.mr_eval.specs.declared.env.Env.{Env}
-use Rattle.mr_frame.specs.Calling.{arg_types}
-use Rattle.mr_frame.specs.Calls.{all_there, both_there}
-use Rattle.mr_frame.specs.Doing.{PlainIn, ResultIn, given_operands, is_plain, result_placed, result_stored, result_typed, with_types}
-use Rattle.mr_frame.specs.Effects.{argued, finished, stored_in}
-use Rattle.mr_frame.specs.Frames.{Look, Stack, at_block, scene_in, with_top}
-use Rattle.mr_frame.specs.Inside.{InProgram, TermIn}
-use Rattle.mr_frame.specs.Operations.{DueDo, Operands, done_stack, result_place, result_type, store_result}
-use Rattle.mr_frame.specs.Sites.{Site}
+use Rattle.mr_frame.specs.Doing.{result_placed, result_typed, with_types}
+use Rattle.mr_frame.specs.Effects.{argued}
+use Rattle.mr_ast.specs.declared.program.Term.TheVariants as term
 use Rattle.mr_frame.proofs.ActedLaws.{memory_bind, on_same}
 use Rattle.mr_frame.proofs.CallSafe.{heads, tails}
 use Rattle.mr_frame.proofs.InsideLaws.{scene_locals, type_there}

@@ -1,45 +1,14 @@
 -- What an intrinsic of a well-formed program is given is never ill-formed, and so is how it ends; the frames fit again behind it.
-use Rattle.std.proofs.Common.{◌≡◌, refl, sym, ap, ◌∙◌, subst, subst₂, arith, List, [], ◌∷◌, length, true, inl, inr, Option, Some, None, map}
-use Rattle.std.proofs.lemmas.Option.{same_Some, slice_get_cases}
-use Rattle.std.specs.Prelude.{◌&&◌}
-use Rattle.std.specs.List.{list_all}
-use Rattle.std.proofs.lemmas.Bool.{and_parts}
-use Rattle.mr_ast.specs.Shaped.{is_block, is_optional_place, is_shaped_term, named_in}
-use Rattle.mr_ast.specs.ShapedValues.{is_shaped_value}
-use Rattle.mr_ast.specs.declared.expr.Place.{Place}
-use Rattle.mr_ast.specs.declared.program.Function.{Function}
-use Rattle.mr_ast.specs.declared.program.Program.{Program}
-use Rattle.mr_ast.specs.declared.program.Stmt.{Stmt}
-use Rattle.mr_ast.specs.declared.program.Term.{Term}
-use Rattle.mr_ast.specs.declared.program.Term.TheVariants as term
-use Rattle.mr_ast.specs.declared.types.Ty.{Ty}
-use Rattle.mr_base.specs.declared.byte.Pointer.{Pointer}
-use Rattle.mr_value.specs.declared.val.Val.{Val}
-use Rattle.mr_value.specs.Shape.{has_shape}
-use Rattle.mr_typing.specs.Blocks.{broken_in_parts, broken_in_result}
-use Rattle.mr_typing.specs.Broken.{sizes_of, surroundings}
+use Rattle.mr_frame.proofs.Common.{◌≡◌, refl, sym, ap, ◌∙◌, subst, arith, List, [], ◌∷◌, length, true, inl, inr, Option, Some, None, map, same_Some, slice_get_cases, ◌&&◌, list_all, and_parts, is_block, is_optional_place, is_shaped_term, named_in, is_shaped_value, Place, Function, Program, Stmt, Term, Ty, Pointer, Val, has_shape, broken_in_parts, broken_in_result, sizes_of, surroundings, type_of_place, type_of_value, WellFormed, typed_do, Surround, place_script, values_script, or_ill_formed, IsSafe, any_result, place_safe, safe_found, safe_then, HaveShapes, IsSafeChange, change_then, all_there, local_type, AreCalling, FitFrames, FitsFrame, FitsStack, IsLook, Frame, Look, Stack, at_block, scene_in, DueDo, Operands, OperandsFit, PlaceFits, do_at, do_due, done_stack, finish, next_do, result_place, result_type, store_result, AtStatement, Site, due_of, due_term, site_of, site_of_frames, lt_from}
+use Rattle.std.proofs.Common.{subst₂}
 use Rattle.mr_typing.specs.Intrinsics.{fits_intrinsic}
-use Rattle.mr_typing.specs.Types.{type_of_place, type_of_value}
-use Rattle.mr_typing.specs.Walk.{WellFormed}
 use Rattle.mr_typing.proofs.StmtWalk.{Gives}
-use Rattle.mr_typing.proofs.TypedStmts.{TypedDo, typed_do}
-use Rattle.mr_eval.specs.Evaluation.{Surround, place_script, values_script}
-use Rattle.mr_eval.specs.Operators.{or_ill_formed}
-use Rattle.mr_eval.specs.Sound.{IsSafe, any_result}
-use Rattle.mr_eval.proofs.ExprSafe.{place_safe}
-use Rattle.mr_eval.proofs.SafeLaws.{safe_found, safe_then}
-use Rattle.mr_eval.specs.Shapes.{HaveShapes}
-use Rattle.mr_plan.specs.Safety.{IsSafeChange}
-use Rattle.mr_plan.proofs.SafetyLaws.{change_then}
-use Rattle.mr_frame.specs.Calls.{all_there, local_type}
-use Rattle.mr_frame.specs.Fits.{AreCalling, FitFrames, FitsFrame, FitsStack, IsLook}
-use Rattle.mr_frame.specs.Frames.{Frame, Look, Stack, at_block, scene_in}
-use Rattle.mr_frame.specs.Operations.{DueDo, Operands, OperandsFit, PlaceFits, do_at, do_due, done_stack, finish, next_do, operands, operands_in, result_place, result_type, store_result}
-use Rattle.mr_frame.specs.Sites.{AtStatement, Site, due_of, due_term, site_of, site_of_frames}
+use Rattle.mr_typing.proofs.TypedStmts.{TypedDo}
+use Rattle.mr_frame.specs.Operations.{operands, operands_in}
+use Rattle.mr_ast.specs.declared.program.Term.TheVariants as term
 use Rattle.mr_frame.proofs.CallSafe.{judged_there, row_safe}
 use Rattle.mr_frame.proofs.ChangesSafe.{store_safe}
 use Rattle.mr_frame.proofs.Frames.{block_shaped, block_unbroken, due_end, due_stmt, fits_block, here, site_is, stands}
-use Rattle.mr_base.proofs.Comparisons.{lt_from}
 
 -- An intrinsic that is due in a thread whose frames fit.
 pub record DoStands (look : Look) (is : IsLook look) (well : WellFormed look.program) (s : Stack) (d : DueDo) : Type 0 where

@@ -1,41 +1,8 @@
 -- The ends of functions, part by part.
-use Rattle.std.proofs.Common.{◌≡◌, ℕ, suc, ◌+◌, ◌<◌, ◌≤◌, refl, sym, ap, ◌∙◌, subst, Bool, true, false, List, [], ◌∷◌, length, drop, get_or, Option, None, Some, add-one}
-use Rattle.std.proofs.Math.Seq.{drop-cons}
-use Rattle.std.proofs.lemmas.List.{drop_all}
-use Rattle.mr_base.specs.Stops.{Stop}
-use Rattle.mr_base.specs.Stops.{plainly}
-use Rattle.mr_ast.specs.declared.program.BlockName.{BlockName}
-use Rattle.mr_ast.specs.declared.program.Function.{Function}
-use Rattle.mr_ast.specs.declared.program.Local.{Local}
+use Rattle.mr_frame.proofs.Common.{◌≡◌, ℕ, suc, ◌+◌, ◌<◌, ◌≤◌, refl, sym, ap, ◌∙◌, subst, Bool, true, false, List, [], ◌∷◌, length, drop, get_or, Option, None, Some, add-one, drop-cons, drop_all, Stop, plainly, BlockName, Function, Local, Ty, Pointer, MainReturned, align_of, size_of, Val, same_Some, option_map, slice_get, if◌then◌else◌, Memory, Outcome, Refused, Undefined, Went, ◌>>=◌, on, run, seen_of, with_seen, read_typed, stored, or_ill_formed, Seen, reading, loading, MemoryScript, memory_answer, reading_part, World, Targets, free_each, give_result, give_to, is_main, leave, local_type, resume, return_value, targets_of, unwind_in, unwind_to, free_storage, store, acted, stored_in, unstored, freed_each, left_by, returned, AreCalling, IsCalling, EndsThread, Frame, GoesOn, Look, Onward, Stack, at_block, with_top, IsReady, look_of, AtTerminator, Site, StandsAt}
+use Rattle.mr_base.specs.declared.reason.Reason.TheVariants.{NoReturnBlock, NoUnwindBlock, UnwoundThread}
 use Rattle.mr_ast.specs.declared.program.Term.TheVariants as term
-use Rattle.mr_ast.specs.declared.types.Ty.{Ty}
-use Rattle.mr_base.specs.declared.byte.Pointer.{Pointer}
-use Rattle.mr_base.specs.declared.reason.Reason.TheVariants.{MainReturned, NoReturnBlock, NoUnwindBlock, UnwoundThread}
-use Rattle.mr_layout.specs.Sizes.{align_of, size_of}
-use Rattle.mr_value.specs.declared.val.Val.{Val}
-use Rattle.std.proofs.lemmas.Option.{same_Some}
-use Rattle.std.specs.Option.{option_map}
-use Rattle.std.specs.Prelude.{slice_get, if◌then◌else◌}
-use Rattle.mr_mem.specs.Memory.{Memory}
-use Rattle.mr_base.specs.Script.{Outcome, Refused, Undefined, Went, ◌>>=◌, on, run}
-use Rattle.mr_eval.specs.Tally.{seen_of, with_seen}
-use Rattle.mr_eval.specs.Evaluated.{read_typed}
-use Rattle.mr_eval.specs.Evaluation.{stored}
-use Rattle.mr_eval.specs.Operators.{or_ill_formed}
-use Rattle.mr_eval.specs.Reads.{Seen, reading}
-use Rattle.mr_eval.specs.Typed.{loading}
-use Rattle.mr_eval.specs.MemoryQueries.{MemoryScript, memory_answer, reading_part}
-use Rattle.mr_eval.specs.World.{World}
 use Rattle.mr_frame.specs.declared.look.Look.{Look as KeptLook}
-use Rattle.mr_frame.specs.Calls.{Targets, free_each, give_result, give_to, is_main, leave, local_type, resume, return_value, targets_of, unwind_in, unwind_to}
-use Rattle.mr_frame.specs.Changes.{free_storage, store}
-use Rattle.mr_frame.specs.Effects.{acted, stored_in, unstored}
-use Rattle.mr_frame.specs.Ending.{freed_each, left_by, returned}
-use Rattle.mr_frame.specs.Fits.{AreCalling, IsCalling}
-use Rattle.mr_frame.specs.Frames.{EndsThread, Frame, GoesOn, Look, Onward, Stack, at_block, with_top}
-use Rattle.mr_frame.specs.Kept.{IsReady, look_of}
-use Rattle.mr_frame.specs.Sites.{AtTerminator, Site}
-use Rattle.mr_frame.specs.Standing.{StandsAt}
 use Rattle.mr_frame.proofs.ActedLaws.{acted_is, acted_return, return_run, free_run, memory_bind, site, stack}
 use Rattle.mr_frame.proofs.EndSafe.{targets_there}
 

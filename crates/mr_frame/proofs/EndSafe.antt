@@ -1,51 +1,11 @@
 -- Returns and unwinding of a frame of a well-formed program are never ill-formed, and the frames fit again behind them.
-use Rattle.std.proofs.Common.{◌≡◌, ℕ, ◌<◌, refl, sym, ap, ◌∙◌, subst, arith, List, [], ◌∷◌, length, Bool, true, false, Option, Some, None}
-use Rattle.std.proofs.lemmas.Option.{same_Some}
-use Rattle.std.specs.Prelude.{slice_get, ◌&&◌, if◌then◌else◌}
-use Rattle.std.specs.Option.{option_map}
-use Rattle.std.specs.List.{list_all}
-use Rattle.std.proofs.lemmas.Bool.{and_parts}
-use Rattle.mr_base.specs.Stops.{plainly}
-use Rattle.mr_ast.specs.Shaped.{is_block, is_optional_block, is_shaped_term, named_in}
-use Rattle.mr_ast.specs.ShapedValues.{is_shaped_place, is_shaped_value}
-use Rattle.mr_ast.specs.declared.expr.Value.{Value}
-use Rattle.mr_ast.specs.declared.program.BlockName.{BlockName}
-use Rattle.mr_ast.specs.declared.program.Function.{Function}
-use Rattle.mr_ast.specs.declared.program.Local.{Local}
-use Rattle.mr_ast.specs.declared.program.Program.{Program}
+use Rattle.mr_frame.proofs.Common.{◌≡◌, ℕ, ◌<◌, refl, sym, ap, ◌∙◌, subst, arith, List, [], ◌∷◌, length, Bool, true, false, Option, Some, None, same_Some, slice_get, ◌&&◌, if◌then◌else◌, option_map, list_all, and_parts, plainly, is_block, is_optional_block, is_shaped_term, named_in, is_shaped_place, is_shaped_value, Value, BlockName, Function, Local, Program, Ty, Pointer, MainReturned, TypeOk, Val, out-Val, has_shape, broken_in_parts, sizes_of, surroundings, is_raw, WellFormed, typed_unwind, Undefined, ◌>>=◌, Surround, stored, value_script, reading_part, or_ill_formed, pointer_in, pointer_of_value, IsSafe, any_result, loading, value_safe, Shaped, loading_safe, safe_found, IsSafeChange, change_then, read_then, Targets, free_each, give_result, give_to, is_main, leave, local_type, resume, return_from, return_value, targets_of, unwind, unwind_in, unwind_to, free_storage, store, AreCalling, FitsFrame, FitsOnward, IsCalling, IsLook, Frame, GoesOn, Look, Stack, at_block, scene_in, with_top, Site, has_storage, lt_from, item_there, all_at}
+use Rattle.mr_eval.proofs.OperatorsSafe.{raw_layer}
+use Rattle.mr_frame.specs.Calls.{targets_at, targets_in, targets_in_function}
 use Rattle.mr_ast.specs.declared.program.Term.TheVariants as term
-use Rattle.mr_ast.specs.declared.types.Ty.{Ty}
-use Rattle.mr_base.specs.declared.byte.Pointer.{Pointer}
-use Rattle.mr_base.specs.declared.reason.Reason.TheVariants.{MainReturned}
-use Rattle.mr_layout.specs.TypeOk.{TypeOk}
-use Rattle.mr_value.specs.declared.val.Val.{Val, out-Val}
-use Rattle.mr_value.specs.Shape.{has_shape}
-use Rattle.mr_typing.specs.Blocks.{broken_in_parts}
-use Rattle.mr_typing.specs.Broken.{sizes_of, surroundings}
-use Rattle.mr_typing.specs.Operands.{is_raw}
-use Rattle.mr_typing.specs.Walk.{WellFormed}
-use Rattle.mr_typing.proofs.TypedStmts.{typed_unwind}
-use Rattle.mr_base.specs.Script.{Undefined, ◌>>=◌}
-use Rattle.mr_eval.specs.Evaluation.{Surround, stored, value_script}
-use Rattle.mr_eval.specs.MemoryQueries.{reading_part}
-use Rattle.mr_eval.specs.Operators.{or_ill_formed, pointer_in, pointer_of_value}
-use Rattle.mr_eval.specs.Sound.{IsSafe, any_result}
-use Rattle.mr_eval.specs.Typed.{loading}
-use Rattle.mr_eval.proofs.ExprSafe.{value_safe}
-use Rattle.mr_eval.proofs.OperatorsSafe.{Shaped, raw_layer}
-use Rattle.mr_eval.proofs.SafeLaws.{loading_safe, safe_found}
-use Rattle.mr_plan.specs.Safety.{IsSafeChange}
-use Rattle.mr_plan.proofs.SafetyLaws.{change_then, read_then}
-use Rattle.mr_frame.specs.Calls.{Targets, free_each, give_result, give_to, is_main, leave, local_type, resume, return_from, return_value, targets_at, targets_in, targets_in_function, targets_of, unwind, unwind_in, unwind_to}
-use Rattle.mr_frame.specs.Changes.{free_storage, store}
-use Rattle.mr_frame.specs.Fits.{AreCalling, FitsFrame, FitsOnward, IsCalling, IsLook}
-use Rattle.mr_frame.specs.Frames.{Frame, GoesOn, Look, Stack, at_block, scene_in, with_top}
-use Rattle.mr_frame.specs.Sites.{Site, has_storage}
 use Rattle.mr_frame.proofs.ChangesSafe.{free_safe, store_safe}
 use Rattle.mr_frame.proofs.Frames.{block_shaped, fits_block, here, keeps, onward_block, stands}
 use Rattle.mr_frame.proofs.Places.{storage_there}
-use Rattle.mr_base.proofs.Comparisons.{lt_from}
-use Rattle.mr_base.proofs.Lists.{item_there, all_at}
 
 -- ---- parts
 

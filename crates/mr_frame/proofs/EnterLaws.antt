@@ -1,58 +1,28 @@
 -- Lawful picks give each local of a function that begins an allocation of its own, into which its argument can be stored.
-use Rattle.std.proofs.Common.{◌≡◌, ◌≢◌, ℕ, suc, ◌+◌, refl, sym, ap, ◌∙◌, subst, arith, inl, inr, Bool, true, false, cond, List, [], ◌∷◌, ◌++◌, length, Option, None, Some, Ok}
-use Rattle.std.proofs.lemmas.Bool.{cases_eq}
-use Rattle.std.proofs.lemmas.List.{length-replicate}
-use Rattle.std.proofs.lemmas.List.Elements.{All-cons, All-head, All-nil, All-tail}
-use Rattle.std.proofs.lemmas.Option.{same_Some}
-use Rattle.std.specs.Option.{option_map}
-use Rattle.std.specs.Prelude.{All, Result, map, not, ◌==◌, ◌||◌, ◌^◌, nat_lt, slice_get}
-use Rattle.std.specs.FinMap as fin
-use Rattle.mr_base.specs.Stops.{reached_by}
+use Rattle.mr_frame.proofs.Common.{◌≡◌, ◌≢◌, ℕ, suc, ◌+◌, refl, sym, ap, ◌∙◌, subst, arith, inl, inr, Bool, true, false, cond, List, [], ◌∷◌, ◌++◌, length, Option, None, Some, Ok, cases_eq, length-replicate, All-cons, All-head, All-nil, All-tail, same_Some, option_map, All, Result, map, ◌==◌, ◌||◌, ◌^◌, slice_get, reached_by, Stop, Function, Local, LocalName, Ty, AllocId, Pointer, align_of, size_of, TypeOk, Memory, allocated, fresh, range_fault, ranges_of, get_there, Val, encoding_of, has_shape, Outcome, Refused, Went, on, HaveShapes, next_id, answered, stored_typed, seen_of, with_seen, World, CanAllocate, CanBegin, allocated_each, stored_each, written_types, behind_first, first_frame, local_type, entered, stored_in, Frame, kept_locals, all_at}
+use Rattle.std.specs.Prelude.{not, nat_lt}
 use Rattle.mr_base.specs.declared.reached.Reaching.TheVariants.{Stores}
-use Rattle.mr_base.specs.Stops.{Stop}
-use Rattle.mr_ast.specs.declared.program.Function.{Function}
-use Rattle.mr_ast.specs.declared.program.Local.{Local}
-use Rattle.mr_ast.specs.declared.program.LocalName.{LocalName}
-use Rattle.mr_ast.specs.declared.types.Ty.{Ty}
 use Rattle.mr_base.specs.declared.byte.AbstractByte.TheVariants.{Uninit}
-use Rattle.mr_base.specs.declared.byte.AllocId.{AllocId}
-use Rattle.mr_base.specs.declared.byte.Kind.TheVariants.{Stack as OnStack}
-use Rattle.mr_base.specs.declared.byte.Pointer.{Pointer}
 use Rattle.mr_base.specs.declared.reason.Reason.{Reason}
-use Rattle.mr_layout.specs.Sizes.{align_of, size_of}
-use Rattle.mr_layout.specs.TypeOk.{TypeOk}
-use Rattle.mr_mem.specs.Memory.{Allocation, Memory, Ranges, allocated, first_overlapped, fresh, is_bad_address, is_multiple, range_fault, ranges_of, reused, written}
+use Rattle.mr_mem.specs.Memory.{Allocation, Ranges, first_overlapped, is_bad_address, is_multiple, reused, written}
 use Rattle.mr_mem.specs.declared.fault.PickFault.{PickFault}
 use Rattle.mr_mem.specs.declared.fault.PickFault.TheVariants.{BadAddress}
-use Rattle.mr_mem.proofs.Identities.{get_here, get_there}
-use Rattle.mr_value.specs.declared.val.Val.{Val}
-use Rattle.mr_value.specs.Encode.{encoding_of}
+use Rattle.mr_mem.proofs.Identities.{get_here}
 use Rattle.mr_value.specs.Numbers.{Bytes}
-use Rattle.mr_value.specs.Shape.{has_shape}
 use Rattle.mr_value.proofs.EncodeLength.{length-encoding_of}
-use Rattle.mr_base.specs.Script.{Outcome, Refused, Went, on}
-use Rattle.mr_eval.specs.Shapes.{HaveShapes}
-use Rattle.mr_eval.specs.MemoryQueries.{next_id, pointer_to}
-use Rattle.mr_eval.specs.Reads.{accessing, answered, seeing, touching}
-use Rattle.mr_eval.specs.Stores.{stored_typed}
-use Rattle.mr_eval.specs.Tally.{seen_of, with_seen}
-use Rattle.mr_eval.specs.World.{World}
+use Rattle.mr_eval.specs.MemoryQueries.{pointer_to}
+use Rattle.mr_eval.specs.Reads.{accessing, seeing, touching}
 use Rattle.mr_plan.proofs.Headers.{Lasting}
 use Rattle.mr_plan.proofs.IdentityCases.{id_cases}
 use Rattle.mr_plan.proofs.RangeChecks.{Within, aligned_passes, ranged, ranged_empty, ranged_within}
+use Rattle.std.specs.FinMap as fin
+use Rattle.mr_base.specs.declared.byte.Kind.TheVariants.{Stack as OnStack}
 use Rattle.mr_plan.proofs.StoreLaws.{put_one, rewritten, rewritten_size, stored_in as bytes_in, written_is}
 use Rattle.mr_frame.specs.declared.look.Look.{Look as KeptLook}
-use Rattle.mr_frame.specs.Beginning.{CanAllocate, CanBegin, allocated_each, stored_each}
-use Rattle.mr_frame.specs.Calling.{written_types}
-use Rattle.mr_frame.specs.Calls.{behind_first, first_frame, local_type}
-use Rattle.mr_frame.specs.Effects.{entered, stored_in}
-use Rattle.mr_frame.specs.Frames.{Frame}
-use Rattle.mr_frame.specs.Sites.{kept_locals}
 use Rattle.mr_frame.proofs.BeginLaws.{entered_is, first_lawful, first_new, next_allocated, next_stored, none_allocated, none_stored, rest_can}
 use Rattle.mr_frame.proofs.ChangeRuns.{store_tells}
 use Rattle.mr_frame.proofs.Frames.{Keeps, function_keeps}
 use Rattle.mr_frame.proofs.TypeRows.{first_there, none_there}
-use Rattle.mr_base.proofs.Lists.{all_at}
 
 -- ---- what lies at the pointers of locals
 

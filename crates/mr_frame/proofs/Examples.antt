@@ -1,19 +1,7 @@
 -- Small calls and frames, and what the definitions say of them, computed.
-use Rattle.std.proofs.Common.{◌≡◌, ℕ, true, false, List, [], ◌∷◌, Some, None, refl}
-use Rattle.mr_base.specs.Stops.{plainly}
-use Rattle.mr_ast.specs.declared.program.BlockName.{BlockName}
-use Rattle.mr_ast.specs.declared.program.Function.{Function}
-use Rattle.mr_ast.specs.declared.program.LocalName.{LocalName}
-use Rattle.mr_ast.specs.declared.types.Num.{Num}
+use Rattle.mr_frame.proofs.Common.{◌≡◌, ℕ, true, false, List, [], ◌∷◌, Some, None, refl, plainly, BlockName, Function, LocalName, Num, Pointer, SignatureMismatch, Refused, nothing_seen, called, called_with, callee_of, is_main, same_types, with_each, Frame, Look, at_block, first_case}
+use Rattle.mr_base.specs.declared.reason.Reason.TheVariants.{NotAFunction}
 use Rattle.mr_ast.specs.declared.types.Ty.TheVariants as ty
-use Rattle.mr_base.specs.declared.byte.Pointer.{Pointer}
-use Rattle.mr_base.specs.declared.reason.Reason.TheVariants.{NotAFunction, SignatureMismatch}
-use Rattle.mr_base.specs.Script.{Refused}
-use Rattle.mr_frame.specs.Acting.{nothing_seen}
-use Rattle.mr_frame.specs.Calling.{called, called_with}
-use Rattle.mr_frame.specs.Calls.{callee_of, is_main, same_types, with_each}
-use Rattle.mr_frame.specs.Frames.{Frame, Look, at_block}
-use Rattle.mr_frame.specs.Switches.{first_case}
 
 -- ---- callees
 

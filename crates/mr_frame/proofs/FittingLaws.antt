@@ -1,24 +1,6 @@
 -- Whether the types of a call are those of a function, one after another.
-use Rattle.std.proofs.Common.{◌≡◌, ℕ, ◌+◌, ◌<◌, ◌≤◌, refl, sym, ap, ◌∙◌, subst, arith, true, false, List, [], ◌∷◌, length, map, drop, get_or, Some, add-one, length-drop}
-use Rattle.std.proofs.Math.Seq.{drop-cons}
-use Rattle.std.proofs.lemmas.Bool.Decides.{nat_tests}
-use Rattle.std.proofs.lemmas.List.{drop_all, length-map}
-use Rattle.std.proofs.lemmas.List.Elements.{All-head, All-tail}
-use Rattle.std.proofs.lemmas.Option.{get_or_from_slice_get, same_Some, slice_get_within}
-use Rattle.std.specs.Option.{option_map}
-use Rattle.std.specs.Prelude.{All, slice_get, ◌==◌, ◌&&◌}
-use Rattle.mr_ast.specs.declared.expr.Value.{Value}
-use Rattle.mr_ast.specs.declared.program.Function.{Function}
-use Rattle.mr_ast.specs.declared.program.Local.{Local}
-use Rattle.mr_ast.specs.declared.program.LocalName.{LocalName}
-use Rattle.mr_ast.specs.declared.types.Ty.{Ty}
-use Rattle.mr_typing.specs.SameTypes.{same_type}
-use Rattle.mr_typing.specs.Types.{type_of_value}
-use Rattle.mr_eval.specs.Environment.{env_surround}
-use Rattle.mr_eval.specs.Evaluation.{Surround}
-use Rattle.mr_eval.specs.declared.env.Env.{Env}
-use Rattle.mr_frame.specs.Calling.{ArgsIn, TypedIn, arg_types, written_types}
-use Rattle.mr_frame.specs.Calls.{both_there, local_type, same_types}
+use Rattle.mr_frame.proofs.Common.{◌≡◌, ℕ, ◌+◌, ◌<◌, ◌≤◌, refl, sym, ap, ◌∙◌, subst, arith, true, false, List, [], ◌∷◌, length, map, drop, get_or, Some, add-one, length-drop, drop-cons, nat_tests, drop_all, length-map, All-head, All-tail, same_Some, slice_get_within, option_map, All, slice_get, ◌==◌, ◌&&◌, Value, Function, Local, LocalName, Ty, same_type, type_of_value, env_surround, Surround, Env, ArgsIn, TypedIn, arg_types, written_types, both_there, local_type, same_types}
+use Rattle.std.proofs.lemmas.Option.{get_or_from_slice_get}
 use Rattle.mr_frame.proofs.BeginSteps.{FirstTyped, first_typed, names_within, row_length}
 use Rattle.mr_frame.proofs.CallSafe.{types_there}
 use Rattle.mr_frame.proofs.TypeRows.{First, first_there, none_there}

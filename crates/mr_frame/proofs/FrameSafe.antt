@@ -1,47 +1,14 @@
 -- The step of a frame of a well-formed program is never ill-formed, and the frames fit again behind it.
-use Rattle.std.proofs.Common.{◌≡◌, ℕ, ◌<◌, refl, sym, subst, arith, List, [], ◌∷◌, length, true, false, inl, inr, Option, Some, None}
-use Rattle.std.proofs.lemmas.Option.{slice_get_cases}
-use Rattle.std.specs.Prelude.{slice_get}
-use Rattle.mr_ast.specs.Shaped.{is_block, is_shaped_stmt, is_shaped_term, named_in}
-use Rattle.mr_ast.specs.ShapedValues.{Named}
-use Rattle.mr_ast.specs.declared.expr.Value.{Value}
-use Rattle.mr_ast.specs.declared.program.BlockName.{BlockName}
-use Rattle.mr_ast.specs.declared.program.Function.{Function}
-use Rattle.mr_ast.specs.declared.program.Local.{Local}
-use Rattle.mr_ast.specs.declared.program.LocalName.{LocalName}
-use Rattle.mr_ast.specs.declared.program.Program.{Program}
-use Rattle.mr_ast.specs.declared.program.Stmt.{Stmt}
-use Rattle.mr_ast.specs.declared.program.Term.{Term}
-use Rattle.mr_ast.specs.declared.program.Term.TheVariants as term
-use Rattle.mr_ast.specs.declared.types.Num.{Num}
-use Rattle.mr_ast.specs.declared.types.Ty.{Ty}
-use Rattle.mr_base.specs.declared.byte.Pointer.{Pointer}
-use Rattle.mr_typing.specs.Blocks.{broken_in_parts, broken_in_stmt, is_kept}
-use Rattle.mr_typing.specs.Broken.{sizes_of, surroundings}
-use Rattle.mr_typing.specs.Walk.{WellFormed}
+use Rattle.mr_frame.proofs.Common.{◌≡◌, ℕ, ◌<◌, refl, sym, subst, arith, List, [], ◌∷◌, length, true, false, inl, inr, Option, Some, None, slice_get_cases, slice_get, is_block, is_shaped_stmt, is_shaped_term, named_in, Named, Value, BlockName, Function, Local, LocalName, Program, Stmt, Term, Num, Ty, Pointer, broken_in_parts, broken_in_stmt, is_kept, sizes_of, surroundings, WellFormed, Done, ◌>>=◌, Surround, reading_part, IsSafe, Stands, any_result, IsSafeChange, change_then, read_then, behind_first, goes_to, local_type, IsChange, change, free_storage, AreCalling, FitFrames, FitsFrame, FitsOnward, FitsStack, IsLook, IsSafePlan, Frame, Look, Stack, scene_in, with_storage, do_at, do_due, next_do, NoDo, Due, Site, due_of, due_term, site_of, site_of_frames, dead, frame_plan, live, live_at, next, plain, plan_at, plan_due, statement, terminator, switched, lt_from, item_there, all_at}
 use Rattle.mr_typing.proofs.TypedStmts.{typed_dead}
-use Rattle.mr_base.specs.Script.{Done, ◌>>=◌}
-use Rattle.mr_eval.specs.Evaluation.{Surround}
-use Rattle.mr_eval.specs.MemoryQueries.{reading_part}
-use Rattle.mr_eval.specs.Sound.{IsSafe, Stands, any_result}
-use Rattle.mr_plan.specs.Safety.{IsSafeChange}
-use Rattle.mr_plan.proofs.SafetyLaws.{change_then, read_then}
-use Rattle.mr_frame.specs.Calls.{behind_first, goes_to, local_type}
-use Rattle.mr_frame.specs.Changes.{IsChange, change, free_storage}
-use Rattle.mr_frame.specs.Fits.{AreCalling, FitFrames, FitsFrame, FitsOnward, FitsStack, IsLook, IsSafePlan}
-use Rattle.mr_frame.specs.Frames.{Frame, Look, Stack, scene_in, with_storage}
-use Rattle.mr_frame.specs.Operations.{do_at, do_due, next_do}
-use Rattle.mr_frame.specs.Sites.{NoDo, Due, Site, due_of, due_term, site_of, site_of_frames}
-use Rattle.mr_frame.specs.Steps.{dead, frame_plan, live, live_at, next, plain, plan_at, plan_due, statement, terminator}
-use Rattle.mr_frame.specs.Switches.{switched}
+use Rattle.mr_base.proofs.Comparisons.{not_true}
+use Rattle.mr_ast.specs.declared.program.Term.TheVariants as term
 use Rattle.mr_frame.proofs.ChangesSafe.{change_safe, free_safe}
 use Rattle.mr_frame.proofs.CallSafe.{call_safe}
 use Rattle.mr_frame.proofs.EndSafe.{resume_safe, return_safe, unwind_safe}
 use Rattle.mr_frame.proofs.Frames.{block_shaped, block_unbroken, due_end, due_stmt, fits_next, fits_stored, fits_unstored, here, onward_block, site_is, stands}
 use Rattle.mr_frame.proofs.SwitchSafe.{switch_safe}
 use Rattle.mr_frame.proofs.Statements.{by_kind, changes}
-use Rattle.mr_base.proofs.Comparisons.{lt_from, not_true}
-use Rattle.mr_base.proofs.Lists.{item_there, all_at}
 
 module _ (look : Look) (is : IsLook look) (well : WellFormed look.program) (s : Stack) (f : Frame) (below : List Frame) (fits : FitsFrame look.program f) (bare : f.call ≡ None) (calling : AreCalling look.program (local_type fits.function fits.function.ret) below) where
   abbrev p : Program

@@ -1,36 +1,16 @@
 -- Frames that fit: where they stand, and how they go on.
-use Rattle.std.proofs.Common.{◌≡◌, ℕ, ◌<◌, refl, ap, ap₂, ◌∙◌, arith, All, List, [], ◌∷◌, ◌++◌, length, Bool, true, false, cond, Option, Some, None}
-use Rattle.std.proofs.lemmas.List.Elements.{All-head, All-tail}
-use Rattle.std.proofs.Math.ListN.{length-set}
-use Rattle.std.specs.Prelude.{flat_map, slice_get, ◌==◌, ◌||◌}
-use Rattle.std.specs.List.{list_any}
-use Rattle.std.proofs.lemmas.Bool.Decides.{nat_tests}
-use Rattle.std.proofs.lemmas.Bool.{and_from, or_parts}
-use Rattle.mr_ast.specs.declared.rule.Rule.TheVariants as form
+use Rattle.mr_frame.proofs.Common.{◌≡◌, ℕ, ◌<◌, refl, ap, ◌∙◌, arith, All, List, [], ◌∷◌, ◌++◌, length, Bool, true, false, cond, Option, Some, None, All-head, All-tail, length-set, slice_get, ◌==◌, ◌||◌, list_any, nat_tests, and_from, or_parts, named_in, Block, Function, Local, LocalName, Program, Stmt, Pointer, broken_in_stmt, is_allowed, is_kept, surroundings, TypeOk, WellFormed, begins_regular, Stands, goes_to, local_type, AreCalling, FitsFrame, FitsOnward, IsLook, Frame, Look, Stack, at_block, behind_stmt, scene_in, with_storage, AtStatement, Site, broken_at, broken_in_head, due_at, due_of, due_term, kept_locals, none_broken, site_in, site_of_frame, site_of_frames, eq_test, item_there, all_at}
+use Rattle.std.proofs.Common.{ap₂}
+use Rattle.std.specs.Prelude.{flat_map}
 use Rattle.mr_ast.specs.declared.rule.Rule.{Rule}
-use Rattle.mr_ast.specs.Shaped.{ShapedBlock, ShapedFunction, named_in}
-use Rattle.mr_ast.specs.declared.program.Block.{Block}
-use Rattle.mr_ast.specs.declared.program.Function.{Function}
-use Rattle.mr_ast.specs.declared.program.Local.{Local}
-use Rattle.mr_ast.specs.declared.program.LocalName.{LocalName}
-use Rattle.mr_ast.specs.declared.program.Program.{Program}
-use Rattle.mr_ast.specs.declared.program.Stmt.{Stmt}
-use Rattle.mr_base.specs.declared.byte.Pointer.{Pointer}
-use Rattle.mr_typing.specs.Blocks.{broken_in_stmt, is_allowed, is_kept}
-use Rattle.mr_typing.specs.Broken.{of_type, rule, surroundings}
-use Rattle.mr_layout.specs.TypeOk.{TypeOk}
+use Rattle.mr_ast.specs.Shaped.{ShapedBlock, ShapedFunction}
+use Rattle.mr_typing.specs.Broken.{of_type, rule}
 use Rattle.mr_typing.specs.Unbroken.{UnbrokenBlock, UnbrokenFunction}
-use Rattle.mr_typing.specs.Walk.{WellFormed, are_arguments, begins_regular}
+use Rattle.mr_typing.specs.Walk.{are_arguments}
 use Rattle.mr_typing.proofs.UnbrokenLaws.{well_formed_keeps}
-use Rattle.mr_eval.specs.Sound.{Stands}
-use Rattle.mr_frame.specs.Calls.{goes_to, local_type}
-use Rattle.mr_frame.specs.Fits.{AreCalling, FitsFrame, FitsOnward, IsLook}
-use Rattle.mr_frame.specs.Frames.{Frame, Look, Stack, at_block, behind_stmt, scene_in, with_storage}
-use Rattle.mr_frame.specs.Sites.{AtStatement, Site, broken_at, broken_in_head, due_at, due_of, due_term, kept_locals, none_broken, site_in, site_of_frame, site_of_frames}
-use Rattle.mr_frame.proofs.Places.{all_apart, all_stay, none_behind}
-use Rattle.mr_base.proofs.Comparisons.{eq_test}
-use Rattle.mr_base.proofs.Lists.{item_there, all_at}
 use Rattle.mr_typing.proofs.NothingLaws.{type_nothing}
+use Rattle.mr_ast.specs.declared.rule.Rule.TheVariants as form
+use Rattle.mr_frame.proofs.Places.{all_apart, all_stay, none_behind}
 
 -- ---- what a function of a well-formed program keeps
 

@@ -1,41 +1,17 @@
 -- What stands in a function of a well-formed program: its places have types that break no rule, and its values have the shapes that are needed.
-use Rattle.std.proofs.Common.{◌≡◌, ℕ, Bool, true, false, List, [], ◌∷◌, Some, refl, sym, ap, ◌∙◌, subst}
-use Rattle.std.specs.Prelude.{is_some}
-use Rattle.std.proofs.lemmas.Option.{same_Some}
-use Rattle.std.proofs.lemmas.Bool.{and_parts}
-use Rattle.mr_ast.specs.Shaped.{named_in}
-use Rattle.mr_ast.specs.ShapedTypes.{is_shaped_num}
-use Rattle.mr_ast.specs.ShapedValues.{is_shaped_place, is_shaped_value}
-use Rattle.mr_ast.specs.declared.types.Num.{Num}
-use Rattle.mr_ast.specs.declared.types.Tag.{Tag}
-use Rattle.mr_ast.specs.declared.types.Ty.{Ty, out-Ty, roll-Ty}
-use Rattle.mr_ast.specs.declared.types.Ty.TheOpen.{Ty-F}
-use Rattle.mr_ast.specs.declared.types.Ty.TheVariants as ty
-use Rattle.mr_ast.specs.declared.types.Variant.{Variant}
-use Rattle.mr_ast.specs.declared.expr.Place.{Place}
-use Rattle.mr_ast.specs.declared.expr.Value.{Value}
-use Rattle.mr_ast.specs.declared.program.Function.{Function}
-use Rattle.mr_ast.specs.declared.program.Stmt.TheVariants as stmt
-use Rattle.mr_layout.specs.EnumRules.{are_all_tags, are_tags, same_num}
-use Rattle.mr_layout.specs.TypeOk.{TypeOk}
+use Rattle.mr_frame.proofs.Common.{◌≡◌, ℕ, Bool, true, false, List, [], ◌∷◌, Some, refl, sym, ap, ◌∙◌, subst, is_some, same_Some, and_parts, named_in, is_shaped_num, is_shaped_place, is_shaped_value, Num, Tag, Ty, out-Ty, Ty-F, Variant, Place, Value, Function, are_tags, same_num, TypeOk, Val, has_shape, broken_in_place, sizes_of, surroundings, tags_among, tags_layer, type_of_place, type_of_value, variant_type, typed_assign, typed_disc_stmt, ShapedAs, env_surround, Surround, Stands, Env, place_safe, tags_in, InProgram, StmtIn, all_at}
+use Rattle.mr_ast.specs.declared.types.Ty.{roll-Ty}
+use Rattle.mr_layout.specs.EnumRules.{are_all_tags}
 use Rattle.mr_layout.proofs.WellFormed.{enum_ok}
-use Rattle.mr_value.specs.declared.val.Val.{Val}
-use Rattle.mr_value.specs.Shape.{has_shape}
-use Rattle.mr_typing.specs.Broken.{broken_in_place, sizes_of, surroundings}
-use Rattle.mr_typing.specs.Types.{tags_among, tags_layer, type_of_place, type_of_value, variant_type}
 use Rattle.mr_typing.specs.Unbroken.{UnbrokenFunction}
 use Rattle.mr_ast.proofs.TypeInduction.{type_made}
-use Rattle.mr_typing.proofs.TypedStmts.{TypedAssign, typed_assign, typed_disc_stmt}
+use Rattle.mr_typing.proofs.TypedStmts.{TypedAssign}
 use Rattle.mr_typing.proofs.UnbrokenLaws.{well_formed_keeps}
-use Rattle.mr_eval.specs.Environment.{PlaceIn, ShapedAs, ValueIn, env_surround, locals_of}
-use Rattle.mr_eval.specs.Evaluation.{Surround}
-use Rattle.mr_eval.specs.Sound.{Stands}
-use Rattle.mr_eval.specs.declared.env.Env.{Env}
-use Rattle.mr_eval.proofs.ExprSafe.{place_safe}
-use Rattle.mr_frame.specs.Changes.{tags_in}
-use Rattle.mr_frame.specs.Inside.{InProgram, StmtIn, TypeAt}
+use Rattle.mr_eval.specs.Environment.{PlaceIn, ValueIn, locals_of}
+use Rattle.mr_frame.specs.Inside.{TypeAt}
+use Rattle.mr_ast.specs.declared.types.Ty.TheVariants as ty
+use Rattle.mr_ast.specs.declared.program.Stmt.TheVariants as stmt
 use Rattle.mr_frame.proofs.ChangesSafe.{tags_there}
-use Rattle.mr_base.proofs.Lists.{all_at}
 
 module _ (e : Env) (f : Function) (h : InProgram f e) where
   -- the locals of the scene are those of the function

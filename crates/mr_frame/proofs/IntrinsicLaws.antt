@@ -1,31 +1,10 @@
 -- The intrinsic that is due, if one is.
-use Rattle.std.proofs.Common.{◌≡◌, refl, sym, ap, ◌∙◌, List, ◌∷◌, length, Option, None, Some}
-use Rattle.std.proofs.lemmas.List.{length-replicate}
-use Rattle.std.proofs.lemmas.Option.{same_Some}
-use Rattle.std.specs.Option.{option_map}
-use Rattle.std.specs.Prelude.{replicate, slice_get}
-use Rattle.mr_ast.specs.declared.expr.Place.{Place}
-use Rattle.mr_ast.specs.declared.expr.Value.{Value}
-use Rattle.mr_ast.specs.declared.program.Block.{Block}
-use Rattle.mr_ast.specs.declared.program.BlockName.{BlockName}
-use Rattle.mr_ast.specs.declared.program.Function.{Function}
-use Rattle.mr_ast.specs.declared.program.Intrinsic.{Intrinsic}
-use Rattle.mr_ast.specs.declared.program.Program.{Program}
-use Rattle.mr_ast.specs.declared.program.Stmt.{Stmt}
-use Rattle.mr_ast.specs.declared.program.Term.{Term}
-use Rattle.mr_ast.specs.declared.program.Term.TheVariants as term
-use Rattle.mr_base.specs.declared.byte.Pointer.{Pointer}
-use Rattle.mr_typing.specs.Walk.{WellFormed}
+use Rattle.mr_frame.proofs.Common.{◌≡◌, refl, sym, ap, ◌∙◌, List, ◌∷◌, length, Option, None, Some, length-replicate, same_Some, option_map, replicate, slice_get, Place, Value, Block, BlockName, Function, Intrinsic, Program, Stmt, Term, Pointer, WellFormed, FitsFrame, IsLook, Frame, Look, Stack, IsReady, look_of, DueDo, do_at, do_due, next_do, AtStatement, Due, NoDo, Site, due_of, due_term, site_of, IsAt, StandsAt, due_in}
 use Rattle.mr_frame.specs.declared.frame.Next.{Next}
+use Rattle.mr_frame.specs.Doing.{operation_in}
+use Rattle.mr_ast.specs.declared.program.Term.TheVariants as term
 use Rattle.mr_frame.specs.declared.frame.Next.TheVariants as next
 use Rattle.mr_frame.specs.declared.look.Look.{Look as KeptLook}
-use Rattle.mr_frame.specs.Doing.{operation_in}
-use Rattle.mr_frame.specs.Fits.{FitsFrame, IsLook}
-use Rattle.mr_frame.specs.Frames.{Frame, Look, Stack}
-use Rattle.mr_frame.specs.Kept.{IsReady, look_of}
-use Rattle.mr_frame.specs.Operations.{DueDo, do_at, do_due, next_do}
-use Rattle.mr_frame.specs.Sites.{AtStatement, Due, NoDo, Site, due_of, due_term, site_of}
-use Rattle.mr_frame.specs.Standing.{IsAt, StandsAt, due_in}
 use Rattle.mr_frame.proofs.ActedLaws.{site, stack}
 use Rattle.mr_frame.proofs.Frames.{due_end, due_stmt, site_is}
 

@@ -11,6 +11,7 @@ pub mod CallStands
 pub mod CalleeLaws
 pub mod ChangeRuns
 pub mod ChangesSafe
+mod Common
 pub mod DoLaws
 pub mod DoSafe
 pub mod EndLaws

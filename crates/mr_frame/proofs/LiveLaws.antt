@@ -1,34 +1,14 @@
 -- Storage of a local that is given up or renewed.
-use Rattle.std.proofs.Common.{◌≡◌, ℕ, refl, sym, ap, ◌∙◌, arith, List, [], ◌∷◌, length, None, Some}
-use Rattle.std.specs.Prelude.{slice_index_or}
-use Rattle.mr_base.specs.Stops.{Stop}
-use Rattle.mr_ast.specs.declared.program.LocalName.{LocalName}
-use Rattle.mr_ast.specs.declared.program.Stmt.TheVariants as stmt
-use Rattle.mr_base.specs.declared.byte.Kind.TheVariants.{Stack as OnStack}
-use Rattle.mr_base.specs.declared.byte.Pointer.{Pointer}
-use Rattle.mr_layout.specs.Sizes.{align_of, size_of}
-use Rattle.mr_mem.specs.Memory.{range_fault, ranges_of}
-use Rattle.mr_sched.specs.declared.schedule.Ask.{Ask}
+use Rattle.mr_frame.proofs.Common.{◌≡◌, ℕ, refl, sym, ap, ◌∙◌, arith, List, [], ◌∷◌, length, None, Some, slice_index_or, Stop, LocalName, Pointer, align_of, size_of, range_fault, ranges_of, Ask, Outcome, Refused, Went, on, seen, Allocate, memory_answer, World, world_of, Scene, picks_fault, AreLawful, CanAllocate, acted, asked, renewed, unstored, Frame, GoesOn, Onward, behind_stmt, with_storage, below_of, frame_of, look_of, stack_of, AtStatement, CanRenew, IsDue, on_then}
 use Rattle.mr_sched.specs.declared.schedule.Ask.TheVariants.{Address}
-use Rattle.mr_base.specs.Script.{Outcome, Refused, Went, on}
-use Rattle.mr_eval.specs.Answers.{seen}
-use Rattle.mr_eval.specs.MemoryQueries.{Allocate, memory_answer}
-use Rattle.mr_eval.specs.World.{World, world_of}
-use Rattle.mr_eval.specs.declared.scene.Scene.{Scene}
-use Rattle.mr_plan.specs.Legal.{picks_fault}
 use Rattle.mr_plan.proofs.LegalLaws.{picks_length}
 use Rattle.mr_frame.specs.declared.slot.Slot.{Slot}
+use Rattle.mr_frame.specs.Standing.{IsSlot}
+use Rattle.mr_ast.specs.declared.program.Stmt.TheVariants as stmt
+use Rattle.mr_base.specs.declared.byte.Kind.TheVariants.{Stack as OnStack}
 use Rattle.mr_frame.specs.declared.look.Look.{Look as KeptLook}
 use Rattle.mr_frame.specs.declared.stack.Stack.{Stack as KeptStack}
-use Rattle.mr_frame.specs.Acting.{AreLawful}
-use Rattle.mr_frame.specs.Beginning.{CanAllocate}
-use Rattle.mr_frame.specs.Effects.{acted, asked, renewed, unstored}
-use Rattle.mr_frame.specs.Frames.{Frame, GoesOn, Onward, behind_stmt, with_storage}
-use Rattle.mr_frame.specs.Kept.{below_of, frame_of, look_of, stack_of}
-use Rattle.mr_frame.specs.Sites.{AtStatement}
-use Rattle.mr_frame.specs.Standing.{CanRenew, IsDue, IsSlot}
 use Rattle.mr_frame.proofs.ActedLaws.{acted_dead, acted_live, asked_live}
-use Rattle.mr_plan.proofs.ReadingRuns.{on_then}
 use Rattle.mr_frame.proofs.BeginLaws.{first_lawful, first_new}
 use Rattle.mr_frame.proofs.StorageLaws.{renewed_is}
 

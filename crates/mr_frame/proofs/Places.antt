@@ -1,17 +1,8 @@
 -- Lists by their positions, storage of locals, and what a function of a well-formed program keeps.
-use Rattle.std.proofs.Common.{◌≡◌, ℕ, ◌<◌, refl, sym, ap, ◌∙◌, subst, arith, List, [], ◌∷◌, length, Bool, true, false, inl, inr, Option, Some, None}
-use Rattle.std.proofs.lemmas.Bool.{both_ways, cases_eq, and_parts, and_from, or_parts}
-use Rattle.std.proofs.lemmas.Option.{slice_get_cases}
-use Rattle.std.proofs.Math.ListN.{length-set}
-use Rattle.std.specs.Prelude.{slice_get, slice_set, ◌==◌, is_some}
+use Rattle.mr_frame.proofs.Common.{◌≡◌, ℕ, ◌<◌, refl, sym, ap, ◌∙◌, subst, arith, List, [], ◌∷◌, length, Bool, true, false, inl, inr, Option, Some, None, cases_eq, and_parts, and_from, or_parts, slice_get_cases, length-set, slice_get, slice_set, ◌==◌, is_some, list_all, list_any, LocalName, Pointer, with_each, has_storage, eq_test}
+use Rattle.std.proofs.lemmas.Bool.{both_ways}
 use Rattle.std.specs.Option.{option_and_then}
-use Rattle.std.specs.List.{list_all, list_any}
-use Rattle.mr_ast.specs.declared.program.LocalName.{LocalName}
-use Rattle.mr_base.specs.declared.byte.Pointer.{Pointer}
-use Rattle.mr_frame.specs.Calls.{with_each}
 use Rattle.mr_plan.proofs.Positions.{set_here}
-use Rattle.mr_frame.specs.Sites.{has_storage}
-use Rattle.mr_base.proofs.Comparisons.{eq_test}
 use Rattle.mr_base.proofs.Lists.{set_there}
 
 pub none_behind : {A : Type 0} (xs : List A) (i : ℕ) → i ≡ length xs → slice_get xs i ≡ None

@@ -1,24 +1,16 @@
 -- Types that hold no other: what they are, and that intrinsics take and give no others.
-use Rattle.std.proofs.Common.{◌≡◌, Bool, true, false, refl, sym, ap, ◌∙◌, List, [], ◌∷◌, Option, None, Some, subst}
-use Rattle.std.specs.List.{list_all}
-use Rattle.std.specs.Prelude.{◌&&◌, ◌||◌, is_some, nat_le}
-use Rattle.std.proofs.lemmas.Bool.{and_parts, or_left, or_right}
-use Rattle.mr_ast.specs.declared.program.Intrinsic.{Intrinsic}
-use Rattle.mr_ast.specs.declared.program.Intrinsic.TheVariants as intrinsic
+use Rattle.mr_frame.proofs.Common.{◌≡◌, Bool, true, false, refl, sym, ap, ◌∙◌, List, [], ◌∷◌, Option, None, Some, subst, list_all, ◌&&◌, ◌||◌, is_some, nat_le, and_parts, Intrinsic, Ty, size_of, TypeOk, is_bool, is_fn_ptr, is_integer, is_raw, is_scalar_number, same_type, integer_in, bool_is, fn_ptr_is, raw_is, is_plain}
+use Rattle.std.proofs.lemmas.Bool.{or_left, or_right}
 use Rattle.mr_ast.specs.declared.types.IntType.{IntType}
 use Rattle.mr_ast.specs.declared.types.IntType.TheVariants.{U32, U64}
-use Rattle.mr_ast.specs.declared.types.Ty.{Ty}
-use Rattle.mr_ast.specs.declared.types.Ty.TheVariants as ty
-use Rattle.mr_layout.specs.Sizes.{size_of}
-use Rattle.mr_layout.specs.TypeOk.{TypeOk}
 use Rattle.mr_layout.proofs.BrokenLaws.{broken_bool, broken_fn_ptr, broken_int, broken_raw}
 use Rattle.mr_typing.specs.Intrinsics.{fits_intrinsic, gives, gives_nothing, is_atomic}
-use Rattle.mr_typing.specs.Operands.{is_bool, is_fn_ptr, is_int, is_integer, is_raw, is_raw_layer, is_scalar_number}
-use Rattle.mr_typing.specs.SameTypes.{same_type}
-use Rattle.mr_typing.specs.Types.{integer_in, integer_of}
-use Rattle.mr_typing.proofs.KindLaws.{bool_is, fn_ptr_is, integer_is, raw_is, same_with_int}
+use Rattle.mr_typing.specs.Operands.{is_int, is_raw_layer}
+use Rattle.mr_typing.specs.Types.{integer_of}
+use Rattle.mr_typing.proofs.KindLaws.{integer_is, same_with_int}
 use Rattle.mr_typing.proofs.SameTypeLaws.{same_type_equal}
-use Rattle.mr_frame.specs.Doing.{is_plain}
+use Rattle.mr_ast.specs.declared.program.Intrinsic.TheVariants as intrinsic
+use Rattle.mr_ast.specs.declared.types.Ty.TheVariants as ty
 
 pub plain_int : (t : Ty) (i : IntType) → integer_of t ≡ Some i → ty.Int i ≡ t
 plain_int t i e = sym (integer_is t i e)

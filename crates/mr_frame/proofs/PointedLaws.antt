@@ -1,26 +1,7 @@
 -- The pointer that an expression gives.
-use Rattle.std.proofs.Common.{◌≡◌, Bool, true, false, refl, sym, ap, ◌∙◌, subst}
-use Rattle.std.proofs.lemmas.Option.{same_Some}
-use Rattle.std.specs.Prelude.{◌||◌}
-use Rattle.mr_ast.specs.declared.expr.Value.{Value}
-use Rattle.mr_ast.specs.declared.types.Ty.{Ty}
-use Rattle.mr_base.specs.declared.byte.Pointer.{Pointer}
-use Rattle.mr_mem.specs.Memory.{Memory}
-use Rattle.mr_value.specs.declared.val.Val.{Val, out-Val}
-use Rattle.mr_value.specs.declared.val.Val.TheVariants as val
-use Rattle.mr_value.specs.Shape.{has_shape}
+use Rattle.mr_frame.proofs.Common.{◌≡◌, Bool, true, false, refl, sym, ap, ◌∙◌, subst, same_Some, ◌||◌, Value, Ty, Pointer, Memory, Val, out-Val, has_shape, Outcome, Went, on, is_fn_ptr, is_raw, fn_ptr_is, raw_is, ShapedAs, env_surround, valued, Surround, pointer_in, Seen, Env, pointed, there_or_broken, ValueAt, is_address}
 use Rattle.mr_value.proofs.ShapeLaws.{shape_fn_ptr, shape_raw}
-use Rattle.mr_base.specs.Script.{Outcome, Went, on}
-use Rattle.mr_typing.specs.Operands.{is_fn_ptr, is_raw}
-use Rattle.mr_typing.proofs.KindLaws.{fn_ptr_is, raw_is}
-use Rattle.mr_eval.specs.Environment.{ShapedAs, env_surround}
-use Rattle.mr_eval.specs.Evaluated.{valued}
-use Rattle.mr_eval.specs.Evaluation.{Surround}
-use Rattle.mr_eval.specs.Operators.{pointer_in}
-use Rattle.mr_eval.specs.Reads.{Seen}
-use Rattle.mr_eval.specs.declared.env.Env.{Env}
-use Rattle.mr_frame.specs.Effects.{pointed, there_or_broken}
-use Rattle.mr_frame.specs.Inside.{ValueAt, is_address}
+use Rattle.mr_value.specs.declared.val.Val.TheVariants as val
 
 pub pointed_is : (m : Memory) (s : Surround) (v : Value) (seen : Seen) → pointed m s v seen ≡ on (valued m s v seen) (λ x last. there_or_broken (pointer_in (out-Val x)) last)
 unfolding pointed

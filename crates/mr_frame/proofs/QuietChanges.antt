@@ -1,25 +1,7 @@
 -- Statements that change memory neither make nor free an allocation.
-use Rattle.std.proofs.Common.{List, [], ◌∷◌, Bool, true, false, Option, Some, None}
-use Rattle.std.specs.Prelude.{if◌then◌else◌}
-use Rattle.mr_ast.specs.declared.program.Stmt.{Stmt}
-use Rattle.mr_ast.specs.declared.program.Stmt.TheVariants as stmt
-use Rattle.mr_ast.specs.declared.types.Tag.{Tag}
-use Rattle.mr_ast.specs.declared.types.Ty.{Ty}
-use Rattle.mr_base.specs.declared.byte.Pointer.{Pointer}
-use Rattle.mr_layout.specs.Sizes.{align_of, size_of}
-use Rattle.mr_value.specs.declared.val.Val.{Val}
-use Rattle.mr_value.specs.Encode.{blank, encoding_of, tag_bytes}
-use Rattle.mr_value.specs.Shape.{has_shape}
-use Rattle.mr_typing.specs.Types.{type_of_place}
-use Rattle.mr_base.specs.Script.{IllFormed, ◌>>=◌}
-use Rattle.mr_eval.specs.Evaluation.{Surround, place_script, value_script}
-use Rattle.mr_eval.specs.MemoryQueries.{MemoryScript, reading_part}
-use Rattle.mr_eval.specs.Moves.{behind}
-use Rattle.mr_eval.specs.Reads.{ReadScript}
-use Rattle.mr_eval.specs.Typed.{loading}
+use Rattle.mr_frame.proofs.Common.{List, [], ◌∷◌, Bool, true, false, Option, Some, None, if◌then◌else◌, Stmt, Tag, Ty, Pointer, align_of, size_of, Val, blank, encoding_of, tag_bytes, has_shape, type_of_place, IllFormed, ◌>>=◌, Surround, place_script, value_script, MemoryScript, reading_part, behind, ReadScript, loading, store_each, Change, change, store, tags_in, with_type, write, write_found, write_tags}
 use Rattle.mr_plan.proofs.QuietRuns.{IsQuiet, quiet_then, reading_quiet}
-use Rattle.mr_frame.specs.Calls.{store_each}
-use Rattle.mr_frame.specs.Changes.{Change, change, store, tags_in, with_type, write, write_found, write_tags}
+use Rattle.mr_ast.specs.declared.program.Stmt.TheVariants as stmt
 
 -- what follows a reading part
 pub read_quiet : {A B : Type 0} (m : ReadScript A) (f : A → MemoryScript B) → ((x : A) → IsQuiet (f x)) → IsQuiet (reading_part m >>= f)

@@ -1,11 +1,5 @@
 -- A value that fits an intrinsic can be stored as its result.
-use Rattle.std.proofs.Common.{◌≡◌, refl, Option, None, Some}
-use Rattle.mr_ast.specs.declared.program.Intrinsic.{Intrinsic}
-use Rattle.mr_ast.specs.declared.types.Ty.{Ty}
-use Rattle.mr_base.specs.declared.byte.Pointer.{Pointer}
-use Rattle.mr_value.specs.declared.val.Val.{Val}
-use Rattle.mr_frame.specs.Doing.{FitsResult}
-use Rattle.mr_frame.specs.Operations.{Operands, OperandsFit, PlaceFits}
+use Rattle.mr_frame.proofs.Common.{◌≡◌, refl, Option, None, Some, Intrinsic, Ty, Pointer, Val, FitsResult, Operands, OperandsFit, PlaceFits}
 use Rattle.mr_frame.proofs.DoSafe.{ValueFits}
 use Rattle.mr_frame.proofs.PlainLaws.{PlainResult, plain_intrinsic, plain_ok}
 

@@ -1,17 +1,11 @@
 -- Stacks as the code keeps them.
-use Rattle.std.proofs.Common.{◌≡◌, ℕ, zero, suc, ◌-◌, refl, sym, ap, ◌∙◌, arith, Bool, true, false, List, [], ◌∷◌, ◌++◌, length, map, None, Some}
-use Rattle.std.specs.Prelude.{reverse, slice_get, ◌==◌, ◌&&◌}
+use Rattle.mr_frame.proofs.Common.{◌≡◌, ℕ, zero, suc, ◌-◌, refl, sym, ap, ◌∙◌, arith, Bool, true, false, List, [], ◌∷◌, ◌++◌, length, map, None, Some, slice_get, ◌==◌, ◌&&◌, nat_tests, length-map, Pointer, is_main, Frame, Stack, at_block, below_of, frame_of, stack_of, item_there}
+use Rattle.std.specs.Prelude.{reverse}
 use Rattle.std.specs.Bool.{IsFalse, IsTrue}
-use Rattle.std.proofs.lemmas.Bool.Decides.{nat_tests}
-use Rattle.std.proofs.lemmas.List.{length-map, length-reverse, reverse-append}
-use Rattle.mr_base.specs.declared.byte.Pointer.{Pointer}
+use Rattle.std.proofs.lemmas.List.{length-reverse, reverse-append}
 use Rattle.mr_frame.specs.declared.frame.Frame.{Frame as KeptFrame}
 use Rattle.mr_frame.specs.declared.stack.Stack.{Stack as KeptStack}
-use Rattle.mr_frame.specs.Calls.{is_main}
-use Rattle.mr_frame.specs.Frames.{Frame, Stack, at_block}
-use Rattle.mr_frame.specs.Kept.{below_of, frame_of, stack_of}
 use Rattle.mr_frame.proofs.CallSafe.{heads, tails}
-use Rattle.mr_base.proofs.Lists.{item_there}
 
 -- a stack of these
 abbrev pub with_frames : List Frame → List Pointer → Stack

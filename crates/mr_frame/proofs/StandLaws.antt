@@ -1,33 +1,13 @@
 -- What is due in a thread stands in its top frame's function, and breaks no rule there.
-use Rattle.std.proofs.Common.{◌≡◌, ℕ, ◌+◌, ◌<◌, ◌^◌, refl, sym, ap, ◌∙◌, subst, arith, Bool, true, false, List, [], length, inl, inr, Option, None, Some}
-use Rattle.std.proofs.lemmas.Option.{same_Some, slice_get_cases}
-use Rattle.std.specs.Prelude.{All, slice_get, ◌==◌, ◌&&◌, if◌then◌else◌}
-use Rattle.mr_ast.specs.Shaped.{is_shaped_stmt, is_shaped_term, named_in}
-use Rattle.mr_ast.specs.declared.program.Function.{Function}
-use Rattle.mr_ast.specs.declared.program.Local.{Local}
-use Rattle.mr_ast.specs.declared.program.LocalName.{LocalName}
-use Rattle.mr_ast.specs.declared.program.Program.{Program}
-use Rattle.mr_ast.specs.declared.program.Stmt.{Stmt}
+use Rattle.mr_frame.proofs.Common.{◌≡◌, ℕ, ◌+◌, ◌<◌, ◌^◌, refl, sym, ap, ◌∙◌, subst, arith, Bool, true, false, List, [], length, inl, inr, Option, None, Some, same_Some, slice_get_cases, All, slice_get, ◌==◌, ◌&&◌, if◌then◌else◌, is_shaped_stmt, is_shaped_term, named_in, Function, Local, LocalName, Program, Stmt, Term, TypeOk, broken_in_parts, broken_in_stmt, is_allowed, surroundings, Env, InProgram, StmtIn, TermIn, FitsFrame, Frame, AtDo, AtStatement, AtTerminator, Due, Site, due_at, due_of, due_term, Holds, IsAt, IsDue, due_in, lt_from, all_at}
+use Rattle.mr_frame.specs.declared.frame.Next.{Next}
 use Rattle.mr_ast.specs.declared.program.Stmt.TheVariants as stmt
-use Rattle.mr_ast.specs.declared.program.Term.{Term}
 use Rattle.mr_ast.specs.declared.program.Term.TheVariants as term
-use Rattle.mr_layout.specs.TypeOk.{TypeOk}
-use Rattle.mr_typing.specs.Blocks.{broken_in_parts, broken_in_stmt, is_allowed}
-use Rattle.mr_typing.specs.Broken.{surroundings}
-use Rattle.mr_eval.specs.declared.env.Env.{Env}
 use Rattle.mr_frame.specs.declared.look.Look.{Look as KeptLook}
 use Rattle.mr_frame.specs.declared.stack.Stack.{Stack as KeptStack}
-use Rattle.mr_frame.specs.Inside.{InProgram, StmtIn, TermIn}
-use Rattle.mr_frame.specs.declared.frame.Next.{Next}
 use Rattle.mr_frame.specs.declared.frame.Next.TheVariants as next
-use Rattle.mr_frame.specs.Fits.{FitsFrame}
-use Rattle.mr_frame.specs.Frames.{Frame}
 use Rattle.mr_frame.specs.Kept.{IsReady, frame_of, below_of as under, look_of}
-use Rattle.mr_frame.specs.Sites.{AtDo, AtStatement, AtTerminator, Due, Site, due_at, due_of, due_term}
-use Rattle.mr_frame.specs.Standing.{Holds, IsAt, IsDue, due_in}
 use Rattle.mr_frame.proofs.Frames.{block_shaped, block_unbroken, due_end, due_stmt, keeps}
-use Rattle.mr_base.proofs.Comparisons.{lt_from}
-use Rattle.mr_base.proofs.Lists.{all_at}
 
 -- ---- what is due, in its block
 

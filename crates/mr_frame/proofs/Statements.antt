@@ -1,14 +1,6 @@
 -- A statement gives storage to a local, takes it away, or changes memory alone.
-use Rattle.std.proofs.Common.{◌≡◌, refl}
-use Rattle.mr_ast.specs.declared.program.LocalName.{LocalName}
-use Rattle.mr_ast.specs.declared.program.Stmt.{Stmt}
+use Rattle.mr_frame.proofs.Common.{◌≡◌, refl, LocalName, Stmt, Done, ◌>>=◌, IsChange, change, Look, Stack, scene_in, Site, FramePlan, next, plain, statement}
 use Rattle.mr_ast.specs.declared.program.Stmt.TheVariants as stmt
-use Rattle.mr_base.specs.Script.{Done, ◌>>=◌}
-use Rattle.mr_frame.specs.Changes.{IsChange, change}
-use Rattle.mr_frame.specs.Frames.{Look, Stack, scene_in}
-use Rattle.mr_frame.specs.Sites.{Site}
-use Rattle.mr_frame.specs.Calls.{FramePlan}
-use Rattle.mr_frame.specs.Steps.{next, plain, statement}
 
 -- what holds of each of the three kinds holds of every statement
 pub by_kind : (P : Stmt → Type 0) → ((x : LocalName) → P (stmt.Live x)) → ((x : LocalName) → P (stmt.Dead x)) → ((x : Stmt) → IsChange x → P x)

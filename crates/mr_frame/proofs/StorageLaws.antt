@@ -1,24 +1,13 @@
 -- What is left behind a free of a local's storage, and new storage for it.
-use Rattle.std.proofs.Common.{◌≡◌, ◌≢◌, ℕ, refl, sym, ap, ◌∙◌, subst, [], ◌∷◌, ◌++◌, Option, None, Some, Result, Ok, Err}
-use Rattle.std.specs.FinMap as fin
-use Rattle.mr_base.specs.Stops.{reached_by}
+use Rattle.mr_frame.proofs.Common.{◌≡◌, ◌≢◌, ℕ, refl, sym, ap, ◌∙◌, subst, [], ◌∷◌, ◌++◌, Option, None, Some, Result, Ok, Err, reached_by, AllocId, Pointer, Memory, pick_fault, range_fault, ranges_of, get_there, Outcome, Refused, Broken, Went, on, Allocate, memory_answer, next_id, answered, World, tally_of, world_of, Scene, renewed, unstored, CanRenew}
 use Rattle.mr_base.specs.declared.reached.Reaching.TheVariants.{Frees}
-use Rattle.mr_base.specs.declared.byte.AllocId.{AllocId}
-use Rattle.mr_base.specs.declared.byte.Kind.TheVariants.{Stack as OnStack}
-use Rattle.mr_base.specs.declared.byte.Pointer.{Pointer}
 use Rattle.mr_base.specs.declared.reason.Reason.{Reason}
-use Rattle.mr_mem.specs.Memory.{Memory, freed, pick_fault, range_fault, ranges_of}
-use Rattle.mr_mem.proofs.Identities.{get_there}
+use Rattle.mr_mem.specs.Memory.{freed}
 use Rattle.mr_mem.proofs.RangeLaws.{ranges-freed}
-use Rattle.mr_base.specs.Script.{Outcome, Refused, Broken, Went, on}
-use Rattle.mr_eval.specs.MemoryQueries.{Allocate, memory_answer, next_id}
-use Rattle.mr_eval.specs.Reads.{answered}
-use Rattle.mr_eval.specs.World.{World, tally_of, world_of}
-use Rattle.mr_eval.specs.declared.scene.Scene.{Scene}
 use Rattle.mr_plan.proofs.FreeLaws.{dead, frees}
 use Rattle.mr_frame.specs.declared.slot.Slot.{Slot}
-use Rattle.mr_frame.specs.Effects.{renewed, unstored}
-use Rattle.mr_frame.specs.Standing.{CanRenew}
+use Rattle.std.specs.FinMap as fin
+use Rattle.mr_base.specs.declared.byte.Kind.TheVariants.{Stack as OnStack}
 
 -- ---- what a free leaves
 

@@ -1,50 +1,17 @@
 -- Each step of a frame keeps the storage of the locals of all frames, and of whatever else is held beside them.
-use Rattle.std.proofs.Common.{◌≡◌, ℕ, zero, suc, ◌<◌, refl, sym, ap, ◌∙◌, subst, arith, List, [], ◌∷◌, ◌++◌, length, Bool, true, false, Option, Some, None, map}
-use Rattle.std.proofs.lemmas.List.{length-replicate}
-use Rattle.std.proofs.lemmas.Option.{same_Some, slice_get_within}
-use Rattle.std.proofs.Math.ListN.{length-set}
-use Rattle.std.specs.Option.{option_map}
-use Rattle.std.specs.Prelude.{slice_get, slice_set, replicate, if◌then◌else◌}
-use Rattle.mr_base.specs.Stops.{plainly}
-use Rattle.mr_ast.specs.declared.expr.Place.{Place}
-use Rattle.mr_ast.specs.declared.expr.Value.{Value}
-use Rattle.mr_ast.specs.declared.program.Block.{Block}
-use Rattle.mr_ast.specs.declared.program.BlockName.{BlockName}
-use Rattle.mr_ast.specs.declared.program.Function.{Function}
-use Rattle.mr_ast.specs.declared.program.Local.{Local}
-use Rattle.mr_ast.specs.declared.program.LocalName.{LocalName}
-use Rattle.mr_ast.specs.declared.program.Program.{Program}
-use Rattle.mr_ast.specs.declared.program.Stmt.{Stmt}
-use Rattle.mr_ast.specs.declared.program.Term.{Term}
-use Rattle.mr_ast.specs.declared.program.Term.TheVariants as term
-use Rattle.mr_ast.specs.declared.types.Ty.{Ty}
-use Rattle.mr_base.specs.declared.byte.Pointer.{Pointer}
-use Rattle.mr_base.specs.declared.reason.Reason.TheVariants.{MainReturned, SignatureMismatch}
-use Rattle.mr_value.specs.declared.val.Val.{Val}
-use Rattle.mr_typing.specs.Walk.{WellFormed, begins_regular}
-use Rattle.mr_base.specs.Script.{Done, Undefined, IllFormed, Ask as Asks, ◌>>=◌}
-use Rattle.mr_eval.specs.Evaluation.{place_script, value_script, values_script}
-use Rattle.mr_eval.specs.MemoryQueries.{MemoryScript, reading_part}
-use Rattle.mr_eval.specs.Operators.{pointer_of_value}
-use Rattle.mr_eval.specs.Reads.{ReadReply, ReadScript}
-use Rattle.mr_plan.specs.Machine.{CreatesNothing, Plan}
+use Rattle.mr_frame.proofs.Common.{◌≡◌, ℕ, zero, suc, ◌<◌, refl, sym, ap, ◌∙◌, subst, arith, List, [], ◌∷◌, ◌++◌, length, Bool, true, false, Option, Some, None, map, length-replicate, same_Some, slice_get_within, length-set, option_map, slice_get, slice_set, replicate, if◌then◌else◌, plainly, Place, Value, Block, BlockName, Function, Local, LocalName, Program, Stmt, Term, Ty, Pointer, MainReturned, SignatureMismatch, Val, WellFormed, begins_regular, place_script, value_script, values_script, MemoryScript, reading_part, pointer_of_value, ReadScript, CreatesNothing, Plan, Targets, all_there, allocate_each, behind_first, both_there, call, call_function, call_number, call_plan, callee_of, calling, enter, enter_at, enter_with, is_main, storage_asks, free_each, give_result, give_to, given_types, goes_to, kept_types, leave, local_type, resume, return_from, return_value, same_types, store_each, targets_of, unwind, unwind_in, unwind_to, with_each, change, free_storage, store, Frame, GoesOn, Look, Onward, Stack, at_block, scene_in, IsLook, DueDo, Operands, done_stack, finish, store_result, AtDo, AtStatement, AtTerminator, Due, Site, broken_at, broken_in_head, due_of, kept_locals, none_broken, site_in, site_of, site_of_frame, site_of_frames, dead, frame_plan, live, live_at, next, plan_at, plan_due, statement, terminator, switched}
+use Rattle.mr_eval.specs.Reads.{ReadReply}
 use Rattle.mr_plan.specs.Storage.{Slot}
-use Rattle.mr_plan.proofs.QuietRuns.{IsQuiet}
+use Rattle.mr_plan.proofs.QuietRuns.{IsQuiet, reading_quiet}
 use Rattle.mr_plan.proofs.StorageRuns.{Entails, Keeps, entails_same, entails_then, in_place, keeps_from, keeps_then, quiet_first, with_empty, without_first, without_front}
-use Rattle.mr_frame.specs.Calls.{Targets, all_there, allocate_each, behind_first, both_there, call, call_function, call_number, call_plan, callee_of, calling, enter, enter_at, enter_with, is_main, storage_asks, free_each, give_result, give_to, given_types, goes_to, kept_types, leave, local_type, resume, return_from, return_value, same_types, store_each, targets_of, unwind, unwind_in, unwind_to, with_each}
-use Rattle.mr_frame.specs.Changes.{change, free_storage, store}
-use Rattle.mr_frame.specs.Frames.{Frame, GoesOn, Look, Onward, Stack, at_block, scene_in}
-use Rattle.mr_frame.specs.Fits.{IsLook}
-use Rattle.mr_frame.specs.Operations.{DueDo, Operands, done_stack, finish, store_result}
-use Rattle.mr_frame.specs.Sites.{AtDo, AtStatement, AtTerminator, Due, Site, broken_at, broken_in_head, due_of, kept_locals, keeps_storage, none_broken, site_in, site_of, site_of_frame, site_of_frames}
-use Rattle.mr_frame.specs.Steps.{dead, frame_plan, live, live_at, next, plan_at, plan_due, statement, terminator}
+use Rattle.mr_frame.specs.Sites.{keeps_storage}
 use Rattle.mr_frame.specs.Storage.{frame_slots, onward_slots, slot_of, slots_in, slots_with}
-use Rattle.mr_frame.specs.Switches.{switched}
+use Rattle.mr_ast.specs.declared.program.Term.TheVariants as term
+use Rattle.mr_base.specs.Script.{Done, Undefined, IllFormed, Ask as Asks, ◌>>=◌}
 use Rattle.mr_frame.proofs.CallSafe.{heads, tails}
 use Rattle.mr_frame.proofs.DoSafe.{DoStands}
 use Rattle.mr_frame.proofs.QuietChanges.{change_quiet, store_quiet, stores_quiet}
 use Rattle.mr_frame.proofs.Statements.{by_kind, changes}
-use Rattle.mr_plan.proofs.QuietRuns.{reading_quiet}
 
 -- ---- rooms by position
 

@@ -1,19 +1,5 @@
 -- Where a switch goes on, by what its value is.
-use Rattle.std.proofs.Common.{◌≡◌, ℕ, refl, ◌∙◌, Option, None, Some, List}
-use Rattle.mr_ast.specs.declared.expr.Value.{Value}
-use Rattle.mr_ast.specs.declared.program.BlockName.{BlockName}
-use Rattle.mr_ast.specs.declared.types.Num.{Num}
-use Rattle.mr_mem.specs.Memory.{Memory}
-use Rattle.mr_value.specs.declared.val.Val.{Val}
-use Rattle.mr_base.specs.Script.{Broken, Done, Outcome, Refused, Went, ◌>>=◌, on, run}
-use Rattle.mr_base.proofs.ScriptRuns.{run_bind}
-use Rattle.mr_typing.specs.Types.{type_of_value}
-use Rattle.mr_eval.specs.Evaluated.{valued}
-use Rattle.mr_eval.specs.Evaluation.{Surround, value_script}
-use Rattle.mr_eval.specs.Operators.{or_ill_formed}
-use Rattle.mr_eval.specs.Reads.{Seen, reading}
-use Rattle.mr_frame.specs.Effects.{chosen}
-use Rattle.mr_frame.specs.Switches.{first_case, number_as}
+use Rattle.mr_frame.proofs.Common.{◌≡◌, ℕ, refl, ◌∙◌, Option, None, Some, List, Value, BlockName, Num, Memory, Val, Broken, Done, Outcome, Refused, Went, ◌>>=◌, on, run, run_bind, type_of_value, valued, Surround, value_script, or_ill_formed, Seen, reading, chosen, first_case, number_as}
 
 module _ (m : Memory) (s : Surround) (value : Value) (cases : List (Num × BlockName)) (other : BlockName) (seen : Seen) where
   -- the block for a number, where there is one

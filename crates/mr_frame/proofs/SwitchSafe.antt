@@ -1,38 +1,12 @@
 -- A switch of a well-formed program leads to a block that is there.
-use Rattle.std.proofs.Common.{◌≡◌, ℕ, ◌<◌, Bool, true, false, List, [], ◌∷◌, Option, Some, refl, sym, ap, ◌∙◌, subst}
-use Rattle.std.specs.Prelude.{◌&&◌, ◌||◌, if◌then◌else◌, is_some}
-use Rattle.std.specs.List.{list_all}
-use Rattle.std.proofs.lemmas.Option.{same_Some}
-use Rattle.std.proofs.lemmas.Bool.{and_parts}
-use Rattle.mr_ast.specs.Shaped.{is_block, is_shaped_target, is_shaped_term}
-use Rattle.mr_ast.specs.ShapedTypes.{is_shaped_num}
-use Rattle.mr_ast.specs.ShapedValues.{Named, is_shaped_value}
-use Rattle.mr_ast.specs.declared.expr.Value.{Value}
-use Rattle.mr_ast.specs.declared.program.BlockName.{BlockName}
-use Rattle.mr_ast.specs.declared.program.Function.{Function}
-use Rattle.mr_ast.specs.declared.program.Term.TheVariants as term
-use Rattle.mr_ast.specs.declared.types.Num.{Num}
-use Rattle.mr_ast.specs.declared.types.Ty.{Ty, out-Ty}
-use Rattle.mr_ast.specs.declared.types.Ty.TheOpen.{Ty-F}
-use Rattle.mr_ast.specs.declared.types.Ty.TheVariants as ty
-use Rattle.mr_ast.specs.declared.types.Variant.{Variant}
-use Rattle.mr_layout.specs.EnumRules.{same_num}
-use Rattle.mr_value.specs.declared.val.Val.{Val, out-Val}
+use Rattle.mr_frame.proofs.Common.{◌≡◌, ℕ, ◌<◌, Bool, true, false, List, [], ◌∷◌, Option, Some, refl, sym, ap, ◌∙◌, subst, ◌&&◌, ◌||◌, if◌then◌else◌, is_some, list_all, same_Some, and_parts, is_block, is_shaped_target, is_shaped_term, is_shaped_num, Named, is_shaped_value, Value, BlockName, Function, Num, Ty, out-Ty, Ty-F, Variant, same_num, Val, out-Val, broken_in_parts, is_bool, is_integer, is_scalar_number, integer_in, type_of_value, bool_is, typed_switch, Done, Surround, value_script, or_ill_formed, IsSafe, Stands, any_result, around, value_safe, Shaped, safe_found, safe_then, first_case, number_as, switched, lt_from}
 use Rattle.mr_value.specs.declared.val.Val.TheOpen.{Val-F}
-use Rattle.mr_typing.specs.Blocks.{broken_in_parts, fits_switch, fits_switch_layer}
-use Rattle.mr_typing.specs.Operands.{is_bool, is_bool_layer, is_integer, is_scalar_number}
-use Rattle.mr_typing.specs.Types.{integer_in, type_of_value}
-use Rattle.mr_typing.proofs.KindLaws.{bool_is}
-use Rattle.mr_typing.proofs.TypedStmts.{typed_switch}
-use Rattle.mr_base.specs.Script.{Done}
-use Rattle.mr_eval.specs.Evaluation.{Surround, value_script}
-use Rattle.mr_eval.specs.Operators.{or_ill_formed}
-use Rattle.mr_eval.specs.Sound.{IsSafe, Stands, any_result, around}
-use Rattle.mr_eval.proofs.ExprSafe.{value_safe}
-use Rattle.mr_eval.proofs.OperatorsSafe.{Shaped, bool_layer, integer_layer}
-use Rattle.mr_eval.proofs.SafeLaws.{safe_found, safe_then}
-use Rattle.mr_frame.specs.Switches.{first_case, number_as, number_layer, switched}
-use Rattle.mr_base.proofs.Comparisons.{lt_from}
+use Rattle.mr_typing.specs.Blocks.{fits_switch, fits_switch_layer}
+use Rattle.mr_typing.specs.Operands.{is_bool_layer}
+use Rattle.mr_eval.proofs.OperatorsSafe.{bool_layer, integer_layer}
+use Rattle.mr_frame.specs.Switches.{number_layer}
+use Rattle.mr_ast.specs.declared.program.Term.TheVariants as term
+use Rattle.mr_ast.specs.declared.types.Ty.TheVariants as ty
 
 -- what is told of integers and of bools
 pub by_kind : {B : Type 0} (told : Ty-F Ty Variant → Val-F Val → Option B) (t : Ty) (v : Val) → ((i : _) (n : ℕ) → (x : B) × (told (Ty-F.Int i) (Val-F.Int n) ≡ Some x)) → ((b : Bool) → (x : B) × (told Ty-F.Bool (Val-F.Bool b) ≡ Some x))

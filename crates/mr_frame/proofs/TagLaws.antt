@@ -1,21 +1,11 @@
 -- The bytes of a tag are those of its number as an integer, and tags are stored one behind the other.
-use Rattle.std.proofs.Common.{◌≡◌, ℕ, ◌+◌, ◌<◌, false, List, ◌∷◌, length, drop, get_or, sym, ap, ◌∙◌, add-one}
-use Rattle.std.proofs.Math.Seq.{drop-cons}
-use Rattle.mr_ast.specs.declared.types.Tag.{Tag}
-use Rattle.mr_ast.specs.declared.types.Ty.TheVariants as ty
-use Rattle.mr_base.specs.declared.byte.Pointer.{Pointer}
+use Rattle.mr_frame.proofs.Common.{◌≡◌, ℕ, ◌+◌, ◌<◌, false, List, ◌∷◌, length, drop, get_or, sym, ap, ◌∙◌, add-one, drop-cons, Tag, Pointer, Memory, encoding_of, tag_bytes, Went, on, behind, Seen, storing, Left, tagged}
 use Rattle.mr_layout.proofs.BrokenLaws.{int_ok}
-use Rattle.mr_mem.specs.Memory.{Memory}
-use Rattle.mr_value.specs.declared.val.Val.TheVariants as val
 use Rattle.mr_value.specs.Discriminants.{bits_of_number}
-use Rattle.mr_value.specs.Encode.{encoding_of, tag_bytes}
 use Rattle.mr_value.proofs.EncodeLaws.{encode_int}
-use Rattle.mr_base.specs.Script.{Went, on}
-use Rattle.mr_eval.specs.Moves.{behind}
-use Rattle.mr_eval.specs.Reads.{Seen}
-use Rattle.mr_eval.specs.Stores.{storing}
 use Rattle.mr_eval.proofs.ShapeOf.{int_shape}
-use Rattle.mr_frame.specs.Effects.{Left, tagged}
+use Rattle.mr_ast.specs.declared.types.Ty.TheVariants as ty
+use Rattle.mr_value.specs.declared.val.Val.TheVariants as val
 
 pub tag_encoded : (g : Tag) → encoding_of (ty.Int g.int) (val.Int (bits_of_number g.int g.number)) ≡ tag_bytes g
 tag_encoded g = encode_int g.int (bits_of_number g.int g.number)

@@ -1,22 +1,6 @@
 -- The values of a terminator that breaks no rule: they stand in the function, and have types that fit.
-use Rattle.std.proofs.Common.{◌≡◌, Bool, true, List, [], Some, refl, ap, ◌∙◌}
-use Rattle.std.specs.Prelude.{◌&&◌, ◌||◌}
-use Rattle.std.specs.List.{list_all}
-use Rattle.std.proofs.lemmas.Bool.{and_parts}
-use Rattle.mr_ast.specs.Shaped.{is_block, is_shaped_target, named_in}
-use Rattle.mr_ast.specs.ShapedValues.{is_shaped_value}
-use Rattle.mr_ast.specs.declared.types.Num.{Num}
-use Rattle.mr_ast.specs.declared.types.Ty.{Ty}
-use Rattle.mr_ast.specs.declared.expr.Value.{Value}
-use Rattle.mr_ast.specs.declared.program.BlockName.{BlockName}
-use Rattle.mr_ast.specs.declared.program.Function.{Function}
+use Rattle.mr_frame.proofs.Common.{◌≡◌, Bool, true, List, [], Some, refl, ap, ◌∙◌, ◌&&◌, ◌||◌, list_all, and_parts, is_block, is_shaped_target, named_in, is_shaped_value, Num, Ty, Value, BlockName, Function, broken_in_value, surroundings, is_fn_ptr, is_raw, is_scalar_number, type_of_value, typed_switch, typed_unwind, Env, InProgram, TermIn, ValueAt, is_address}
 use Rattle.mr_ast.specs.declared.program.Term.TheVariants as term
-use Rattle.mr_typing.specs.Broken.{broken_in_value, surroundings}
-use Rattle.mr_typing.specs.Operands.{is_fn_ptr, is_raw, is_scalar_number}
-use Rattle.mr_typing.specs.Types.{type_of_value}
-use Rattle.mr_typing.proofs.TypedStmts.{typed_switch, typed_unwind}
-use Rattle.mr_eval.specs.declared.env.Env.{Env}
-use Rattle.mr_frame.specs.Inside.{InProgram, TermIn, ValueAt, is_address}
 use Rattle.mr_frame.proofs.InsideLaws.{scene_locals}
 use Rattle.mr_frame.proofs.SwitchSafe.{switch_scalar}
 

@@ -1,20 +1,8 @@
 -- Where a part stops, the whole stops.
-use Rattle.std.proofs.Common.{◌≡◌, ◌<◌, ℕ, List, length, drop, get_or}
-use Rattle.std.specs.Prelude.{Err, Option}
-use Rattle.mr_base.specs.Stops.{Stop, stop_with}
-use Rattle.mr_base.specs.declared.reached.Reached.{Reached}
-use Rattle.mr_mem.specs.declared.fault.Fault.{Fault}
-use Rattle.mr_mem.specs.declared.fault.Fault.TheVariants as fault
-use Rattle.mr_base.specs.Script.{Outcome, Refused}
-use Rattle.mr_eval.specs.Environment.{Leaves, Tells}
-use Rattle.mr_mem.specs.Memory.{Memory}
-use Rattle.mr_ast.specs.declared.expr.Value.{Value}
-use Rattle.mr_value.specs.declared.val.Val.{Val}
-use Rattle.mr_eval.specs.declared.halt.Halt.TheVariants as halt
-use Rattle.mr_eval.specs.Evaluated.{each_valued, valued}
-use Rattle.mr_eval.specs.Evaluation.{Surround}
-use Rattle.mr_eval.specs.Reads.{Seen}
+use Rattle.mr_frame.proofs.Common.{◌≡◌, ◌<◌, ℕ, List, length, drop, get_or, Err, Option, Stop, stop_with, Reached, Fault, Outcome, Refused, Leaves, Tells, Memory, Value, Val, each_valued, valued, Surround, Seen}
 use Rattle.mr_eval.proofs.RowRuns.{behind_row, row_stop}
+use Rattle.mr_mem.specs.declared.fault.Fault.TheVariants as fault
+use Rattle.mr_eval.specs.declared.halt.Halt.TheVariants as halt
 
 -- of a part that is told as it is
 pub told_stop : {A B S T : Type 0} (f : Fault) (o : Outcome A S) (whole : Outcome B T) (v : S) (t : T) (refused : Option Reached) → Tells {X = A} (Err f) o v refused

@@ -1,8 +1,5 @@
 -- Types in a row, of locals or of values, one after another.
-use Rattle.std.proofs.Common.{◌≡◌, refl, sym, List, [], ◌∷◌, Option, None, Some}
-use Rattle.std.proofs.lemmas.Option.{same_Some}
-use Rattle.std.specs.Option.{option_map}
-use Rattle.mr_frame.specs.Calls.{all_there, both_there}
+use Rattle.mr_frame.proofs.Common.{◌≡◌, refl, sym, List, [], ◌∷◌, Option, None, Some, same_Some, option_map, all_there, both_there}
 
 -- the first of them, and those behind it
 pub record First {A : Type 0} (o : Option A) (os : List (Option A)) (xs : List A) : Type 0 where

@@ -1,6 +1,5 @@
 -- What some numbers say of their programs, computed.
-use Rattle.std.proofs.Common.{◌≡◌, true, false, length, refl}
-use Rattle.mr_gen.specs.Generated.{is_resetting, main_blocks, rounds_of, workers_of}
+use Rattle.mr_gen.proofs.Common.{◌≡◌, true, false, length, refl, is_resetting, main_blocks, rounds_of, workers_of}
 
 -- the least program: two workers with one round each
 least_workers : workers_of 0 ≡ 2

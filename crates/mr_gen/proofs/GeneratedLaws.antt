@@ -1,8 +1,7 @@
 -- The program of each number is well-formed.
-use Rattle.std.proofs.Common.{◌≡◌, ℕ, ◌<◌, ◌≤◌, ◌^◌, sym, subst, arith}
-use Rattle.mr_ast.specs.declared.program.Program.{Program}
+use Rattle.mr_gen.proofs.Common.{◌≡◌, ℕ, ◌<◌, ◌≤◌, ◌^◌, sym, arith, Program, generated, is_resetting, program_with, rounds_of, workers_of}
+use Rattle.std.proofs.Common.{subst}
 use Rattle.mr_typing.specs.Walk.{WellFormed}
-use Rattle.mr_gen.specs.Generated.{generated, is_resetting, program_with, rounds_of, workers_of}
 use Rattle.mr_gen.proofs.NoFaults.{program_nothing}
 use Rattle.mr_gen.proofs.ShapedProgram.{program_shaped}
 use Rattle.mr_gen.proofs.UnbrokenProgram.{program_unbroken}

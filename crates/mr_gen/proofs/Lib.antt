@@ -1,3 +1,4 @@
+mod Common
 pub mod Examples
 pub mod GeneratedLaws
 pub mod Growing

@@ -1,15 +1,11 @@
 -- What holds of each block of the main function, and how many there are.
-use Rattle.std.proofs.Common.{◌≡◌, ℕ, zero, suc, ◌+◌, ◌*◌, ◌<◌, ◌≤◌, true, [], ◌∷◌, ◌++◌, map, length, Option, None, Some, All, ap, ◌∙◌, refl, arith, length-append}
-use Rattle.std.specs.Prelude.{Bool, false}
-use Rattle.std.specs.List.{range_with_len}
-use Rattle.std.proofs.lemmas.List.Elements.{All-append, All-cons, All-map, All-nil}
+use Rattle.mr_gen.proofs.Common.{◌≡◌, ℕ, zero, suc, ◌+◌, ◌*◌, ◌<◌, ◌≤◌, true, [], ◌∷◌, ◌++◌, map, length, Option, None, Some, All, ap, ◌∙◌, refl, arith, length-append, Bool, false, range_with_len, All-cons, All-nil, Function, goes_to, exit_block, join_block, lock_block, main_blocks, print_block, spawn_block}
+use Rattle.std.proofs.lemmas.List.Elements.{All-append, All-map}
 use Rattle.std.proofs.lemmas.List.FromFn.{length-map-range_with_len}
 use Rattle.std.proofs.lemmas.Option.{slice_get-get_or}
 use Rattle.mr_ast.specs.declared.program.Block.{Block}
 use Rattle.mr_ast.specs.declared.program.BlockKind.TheVariants.{Regular}
-use Rattle.mr_ast.specs.declared.program.Function.{Function}
-use Rattle.mr_typing.specs.Blocks.{goes_to, same_kind}
-use Rattle.mr_gen.specs.Generated.{exit_block, join_block, lock_block, main_blocks, print_block, spawn_block}
+use Rattle.mr_typing.specs.Blocks.{same_kind}
 
 -- what holds of each number in a row
 All-range : (P : ℕ → Type 0) (a n : ℕ) → ((k : ℕ) → a ≤ k → k < a + n → P k) → All P (range_with_len a n)

@@ -1,11 +1,8 @@
 -- The names of a program: how they are added, and how many there are.
-use Rattle.std.proofs.Common.{◌≡◌, ℕ, zero, suc, ◌+◌, ◌*◌, ◌<◌, ◌≤◌, List, [], ◌∷◌, ◌++◌, length, refl, arith, codes, decimal, length-append}
+use Rattle.mr_gen.proofs.Common.{◌≡◌, ℕ, zero, suc, ◌+◌, ◌*◌, ◌<◌, ◌≤◌, List, [], ◌∷◌, ◌++◌, length, refl, arith, codes, decimal, length-append, fold, with_text, counted_texts, first_texts, name_texts}
 use Rattle.std.specs.Fmt.{digits}
-use Rattle.std.specs.List.{fold}
 use Rattle.std.proofs.lemmas.List.FromFn.{length-map-range_with_len}
-use Rattle.mr_ast.specs.Scope.{with_text}
 use Rattle.mr_ast.specs.Words.{Texts}
-use Rattle.mr_gen.specs.Generated.{counted_texts, first_texts, name_texts}
 
 -- ---- all of them
 

@@ -1,26 +1,20 @@
 -- A program each of whose parts keeps its rules has no fault.
-use Rattle.std.proofs.Common.{◌≡◌, ℕ, suc, Bool, true, List, [], ◌∷◌, ◌++◌, length, Option, None, Some, All, refl, ap}
+use Rattle.mr_gen.proofs.Common.{◌≡◌, ℕ, suc, Bool, true, List, [], ◌∷◌, ◌++◌, length, Option, None, Some, All, refl, ap, BlockName, Function, Local, Program, Stmt, broken_in_stmt, sizes_of, surroundings}
 use Rattle.std.specs.List.{AllPass, flat_map}
 use Rattle.std.proofs.lemmas.List.Elements.{All-head, All-tail}
 use Rattle.mr_ast.specs.declared.rule.Rule.{Rule}
-use Rattle.mr_ast.specs.declared.rule.Rule.TheVariants as form
 use Rattle.mr_ast.specs.declared.program.Block.{Block}
-use Rattle.mr_ast.specs.declared.program.BlockName.{BlockName}
-use Rattle.mr_ast.specs.declared.program.Function.{Function}
 use Rattle.mr_ast.specs.declared.program.Global_.{Global_}
 use Rattle.mr_ast.specs.declared.program.Item_.{Item_}
-use Rattle.mr_ast.specs.declared.program.Local.{Local}
-use Rattle.mr_ast.specs.declared.program.Program.{Program}
-use Rattle.mr_ast.specs.declared.program.Stmt.{Stmt}
 use Rattle.mr_layout.specs.TypeOk.{TypeOk}
 use Rattle.mr_typing.specs.declared.fault.FormFault.{FormFault}
 use Rattle.mr_typing.specs.declared.fault.Item.{Item}
-use Rattle.mr_typing.specs.declared.fault.Item.TheVariants.{Static, Function as InFunction}
-use Rattle.mr_typing.specs.Blocks.{broken_in_stmt}
 use Rattle.mr_typing.specs.Unbroken.{UnbrokenBlock, UnbrokenFunction, UnbrokenGlobal, UnbrokenProgram}
-use Rattle.mr_typing.specs.Broken.{Rules, rule, sizes_of, surroundings}
+use Rattle.mr_typing.specs.Broken.{Rules, rule}
 use Rattle.mr_typing.specs.Walk.{at_position, each_at, faults_in_block, faults_in_function, faults_in_global, faults_in_local, faults_in_stmt, faults_of, is_target}
 use Rattle.mr_typing.proofs.NothingLaws.{type_nothing}
+use Rattle.mr_ast.specs.declared.rule.Rule.TheVariants as form
+use Rattle.mr_typing.specs.declared.fault.Item.TheVariants.{Static, Function as InFunction}
 
 -- ---- lists of nothing
 

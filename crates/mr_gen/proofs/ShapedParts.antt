@@ -1,26 +1,22 @@
 -- Places, values, statements and ends whose names are positions and whose numbers can be written.
-use Rattle.std.proofs.Common.{◌≡◌, ℕ, ◌^◌, Bool, true, [], ◌∷◌, refl, ◌∙◌}
-use Rattle.std.specs.Prelude.{◌&&◌, nat_lt}
+use Rattle.mr_gen.proofs.Common.{◌≡◌, ℕ, ◌^◌, Bool, true, [], ◌∷◌, refl, ◌∙◌, ◌&&◌, nat_lt, U64, BlockName, action, counter, creation, handle, increment, plain_num, round, u64_value, with_number}
 use Rattle.mr_ast.specs.declared.types.IntType.{IntType}
-use Rattle.mr_ast.specs.declared.types.IntType.TheVariants.{U64}
-use Rattle.mr_ast.specs.declared.types.Ty.TheVariants as ty
 use Rattle.mr_ast.specs.declared.expr.BinaryOp.{BinaryOp}
 use Rattle.mr_ast.specs.declared.expr.BinaryOp.TheVariants.{Add, Lt}
 use Rattle.mr_ast.specs.declared.expr.Place.{Place}
 use Rattle.mr_ast.specs.declared.expr.Value.{Value}
-use Rattle.mr_ast.specs.declared.expr.Value.TheVariants as value
-use Rattle.mr_ast.specs.declared.program.BlockName.{BlockName}
 use Rattle.mr_ast.specs.declared.program.FnName.{FnName}
 use Rattle.mr_ast.specs.declared.program.GlobalName.{GlobalName}
 use Rattle.mr_ast.specs.declared.program.Intrinsic.{Intrinsic}
-use Rattle.mr_ast.specs.declared.program.Intrinsic.TheVariants as intrinsic
-use Rattle.mr_ast.specs.declared.program.Stmt.TheVariants as stmt
-use Rattle.mr_ast.specs.declared.program.Term.TheVariants as term
 use Rattle.mr_ast.specs.Shaped.{is_shaped_stmt, is_shaped_term}
 use Rattle.mr_ast.specs.ShapedTypes.{is_shaped_num}
 use Rattle.mr_ast.specs.ShapedValues.{Named, is_shaped_place, is_shaped_value}
 use Rattle.mr_ast.proofs.ShapedLaws.{shaped_binary, shaped_deref, shaped_fn, shaped_global, shaped_int, shaped_int_type, shaped_load, shaped_local_place, shaped_raw}
-use Rattle.mr_gen.specs.Generated.{action, counter, creation, handle, increment, plain_num, round, u64_value, with_number}
+use Rattle.mr_ast.specs.declared.types.Ty.TheVariants as ty
+use Rattle.mr_ast.specs.declared.expr.Value.TheVariants as value
+use Rattle.mr_ast.specs.declared.program.Intrinsic.TheVariants as intrinsic
+use Rattle.mr_ast.specs.declared.program.Stmt.TheVariants as stmt
+use Rattle.mr_ast.specs.declared.program.Term.TheVariants as term
 
 -- two tests that pass
 pub both_pass : {a b : Bool} → a ≡ true → b ≡ true → (a && b) ≡ true

@@ -1,23 +1,17 @@
 -- The program is shaped, whatever the numbers of workers and rounds.
-use Rattle.std.proofs.Common.{inl, ◌≡◌, ℕ, ◌+◌, ◌*◌, ◌<◌, ◌≤◌, ◌^◌, Bool, true, false, [], ◌∷◌, length, All, refl, arith, lit<, lit≤, lt-ltb}
-use Rattle.std.specs.Prelude.{nat_lt}
-use Rattle.std.proofs.lemmas.List.Elements.{All-cons, All-nil}
-use Rattle.mr_ast.specs.declared.types.IntType.TheVariants.{U32, U64}
+use Rattle.mr_gen.proofs.Common.{◌≡◌, ℕ, ◌+◌, ◌*◌, ◌<◌, ◌≤◌, ◌^◌, Bool, true, false, [], ◌∷◌, length, All, refl, arith, lt-ltb, nat_lt, All-cons, All-nil, U32, U64, Function, Program, Stmt, advance_block, begin_block, count_block, counter, counter_global, enter_block, exit_block, finish_block, increment, join_block, last_stmts, local, lock_block, main_blocks, main_function, name_texts, print_block, program_with, round, spawn_block, test_block, u32_value, u64_value, unit, worker_blocks, worker_function}
+use Rattle.std.proofs.Common.{inl, lit<, lit≤}
 use Rattle.mr_ast.specs.declared.types.Ty.{Ty}
-use Rattle.mr_ast.specs.declared.types.Ty.TheVariants as ty
-use Rattle.mr_ast.specs.declared.expr.Value.TheVariants as value
-use Rattle.mr_ast.specs.declared.program.Function.{Function}
-use Rattle.mr_ast.specs.declared.program.Intrinsic.TheVariants as intrinsic
-use Rattle.mr_ast.specs.declared.program.Item_.TheVariants as item
 use Rattle.mr_ast.specs.declared.program.LocalName.{LocalName}
-use Rattle.mr_ast.specs.declared.program.Program.{Program}
-use Rattle.mr_ast.specs.declared.program.Stmt.{Stmt}
-use Rattle.mr_ast.specs.declared.program.Stmt.TheVariants as stmt
 use Rattle.mr_ast.specs.Shaped.{Shaped, ShapedBlock, ShapedFunction, ShapedGlobal, ShapedItem, ShapedLocal, is_shaped_stmt, named_in}
 use Rattle.mr_ast.specs.ShapedTypes.{is_shaped_type}
 use Rattle.mr_ast.specs.ShapedValues.{Named}
 use Rattle.mr_ast.proofs.ShapedLaws.{shaped_int_type, shaped_raw_type, shaped_tuple_type}
-use Rattle.mr_gen.specs.Generated.{advance_block, begin_block, count_block, counter, counter_global, enter_block, exit_block, finish_block, increment, join_block, last_stmts, local, lock_block, main_blocks, main_function, name_texts, print_block, program_with, round, spawn_block, test_block, u32_value, u64_value, unit, worker_blocks, worker_function}
+use Rattle.mr_ast.specs.declared.types.Ty.TheVariants as ty
+use Rattle.mr_ast.specs.declared.expr.Value.TheVariants as value
+use Rattle.mr_ast.specs.declared.program.Intrinsic.TheVariants as intrinsic
+use Rattle.mr_ast.specs.declared.program.Item_.TheVariants as item
+use Rattle.mr_ast.specs.declared.program.Stmt.TheVariants as stmt
 use Rattle.mr_gen.proofs.MainBlocks.{All-main_blocks, length-main_blocks}
 use Rattle.mr_gen.proofs.NameLaws.{is_name}
 use Rattle.mr_gen.proofs.ShapedParts.{shaped_action, shaped_assign, shaped_counter, shaped_increment, shaped_loaded, shaped_lock, shaped_number, shaped_round, shaped_spawn, shaped_test}

@@ -1,44 +1,40 @@
 -- Places, values, statements and ends that break no rule, from parts that break none.
-use Rattle.std.proofs.Common.{◌≡◌, ℕ, ◌^◌, Bool, true, List, [], ◌∷◌, Option, None, Some, refl, ap, ◌∙◌, option_map}
-use Rattle.std.specs.Prelude.{◌&&◌, ◌||◌, is_some, nat_lt, slice_get}
-use Rattle.mr_ast.specs.declared.rule.Rule.TheVariants as form
+use Rattle.mr_gen.proofs.Common.{◌≡◌, ℕ, ◌^◌, Bool, true, List, [], ◌∷◌, Option, None, Some, refl, ap, ◌∙◌, ◌&&◌, nat_lt, U32, U64, BlockName, Function, Local, Surroundings, broken_in_stmt, action, counter, creation, handle, increment, plain_num, u64_value, with_number}
+use Rattle.std.proofs.Common.{option_map}
+use Rattle.std.specs.Prelude.{◌||◌, is_some, slice_get}
 use Rattle.mr_ast.specs.declared.types.IntType.{IntType}
-use Rattle.mr_ast.specs.declared.types.IntType.TheVariants.{U32, U64}
 use Rattle.mr_ast.specs.declared.types.Num.{Num}
 use Rattle.mr_ast.specs.declared.types.Ty.{Ty}
-use Rattle.mr_ast.specs.declared.types.Ty.TheVariants as ty
 use Rattle.mr_ast.specs.declared.types.Ty.TheOpen.{Ty-F}
 use Rattle.mr_ast.specs.declared.types.Variant.{Variant}
 use Rattle.mr_ast.specs.declared.expr.BinaryOp.{BinaryOp}
 use Rattle.mr_ast.specs.declared.expr.BinaryOp.TheVariants.{Add, Lt}
 use Rattle.mr_ast.specs.declared.expr.Place.{Place}
 use Rattle.mr_ast.specs.declared.expr.Value.{Value}
-use Rattle.mr_ast.specs.declared.expr.Place.TheVariants as place
-use Rattle.mr_ast.specs.declared.expr.Value.TheVariants as value
-use Rattle.mr_ast.specs.declared.program.BlockName.{BlockName}
 use Rattle.mr_ast.specs.declared.program.FnName.{FnName}
-use Rattle.mr_ast.specs.declared.program.Function.{Function}
 use Rattle.mr_ast.specs.declared.program.GlobalName.{GlobalName}
 use Rattle.mr_ast.specs.declared.program.Intrinsic.{Intrinsic}
-use Rattle.mr_ast.specs.declared.program.Intrinsic.TheVariants as intrinsic
-use Rattle.mr_ast.specs.declared.program.Local.{Local}
 use Rattle.mr_ast.specs.declared.program.LocalName.{LocalName}
-use Rattle.mr_ast.specs.declared.program.Stmt.TheVariants as stmt
-use Rattle.mr_ast.specs.declared.program.Term.TheVariants as term
 use Rattle.mr_ast.specs.Integers.{is_fitting}
 use Rattle.mr_layout.proofs.BrokenLaws.{broken_int}
 use Rattle.mr_typing.specs.SameTypes.{same_type}
 use Rattle.mr_typing.specs.Types.{chained, integer_in, result_type, type_of_place, type_of_value}
 use Rattle.mr_typing.specs.Operands.{fits_binary, is_bool_layer, is_fn_ptr_layer, is_integer, is_pointer, is_raw, is_raw_layer, is_ref_layer, is_scalar_number}
 use Rattle.mr_typing.specs.Intrinsics.{fits_intrinsic}
-use Rattle.mr_typing.specs.Broken.{Surroundings, broken_in_place, broken_in_value, is_in_global, where_all_typed, where_both_typed, where_typed}
-use Rattle.mr_typing.specs.Blocks.{broken_in_parts, broken_in_stmt, fits_switch, fits_switch_layer, where_result_typed}
+use Rattle.mr_typing.specs.Broken.{broken_in_place, broken_in_value, is_in_global, where_all_typed, where_both_typed, where_typed}
+use Rattle.mr_typing.specs.Blocks.{broken_in_parts, fits_switch, fits_switch_layer, where_result_typed}
 use Rattle.mr_typing.proofs.BrokenInLaws.{broken_in_binary, broken_in_deref, broken_in_fn, broken_in_global, broken_in_int, broken_in_load, broken_in_local, broken_in_raw}
 use Rattle.mr_typing.proofs.SameTypeLaws.{same_type_itself}
 use Rattle.mr_typing.proofs.TypeLaws.{type_of_binary, type_of_deref, type_of_fn, type_of_global, type_of_int, type_of_load, type_of_local, type_of_raw}
-use Rattle.mr_gen.specs.Generated.{action, counter, creation, handle, increment, plain_num, u64_value, with_number}
-use Rattle.mr_gen.proofs.NoFaults.{both_nothing, rule_nothing}
 use Rattle.mr_typing.proofs.NothingLaws.{type_nothing}
+use Rattle.mr_ast.specs.declared.rule.Rule.TheVariants as form
+use Rattle.mr_ast.specs.declared.types.Ty.TheVariants as ty
+use Rattle.mr_ast.specs.declared.expr.Place.TheVariants as place
+use Rattle.mr_ast.specs.declared.expr.Value.TheVariants as value
+use Rattle.mr_ast.specs.declared.program.Intrinsic.TheVariants as intrinsic
+use Rattle.mr_ast.specs.declared.program.Stmt.TheVariants as stmt
+use Rattle.mr_ast.specs.declared.program.Term.TheVariants as term
+use Rattle.mr_gen.proofs.NoFaults.{both_nothing, rule_nothing}
 
 -- ---- types
 

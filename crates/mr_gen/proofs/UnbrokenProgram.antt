@@ -1,27 +1,19 @@
 -- The worker and the main function break no rule, whatever the numbers of workers and rounds.
-use Rattle.std.proofs.Common.{◌≡◌, ℕ, ◌+◌, ◌*◌, ◌<◌, ◌≤◌, ◌^◌, Bool, true, false, [], ◌∷◌, All, refl, arith, lt-ltb}
+use Rattle.mr_gen.proofs.Common.{◌≡◌, ℕ, ◌+◌, ◌*◌, ◌<◌, ◌≤◌, ◌^◌, Bool, true, false, [], ◌∷◌, All, refl, arith, lt-ltb, All-cons, All-nil, U32, U64, Function, Local, Program, Stmt, broken_in_stmt, goes_to, Surroundings, sizes_of, surroundings, advance_block, begin_block, count_block, counter, counter_global, enter_block, exit_block, finish_block, handle, increment, join_block, last_stmts, local, lock_block, main_blocks, main_function, print_block, program_with, round, spawn_block, test_block, u32_value, u64_value, unit, worker_blocks, worker_function}
 use Rattle.std.specs.Int.Count.{ones}
-use Rattle.std.proofs.lemmas.List.Elements.{All-cons, All-nil}
-use Rattle.mr_ast.specs.declared.types.IntType.TheVariants.{U32, U64}
-use Rattle.mr_ast.specs.declared.types.Ty.TheVariants as ty
-use Rattle.mr_ast.specs.declared.expr.Value.TheVariants as value
 use Rattle.mr_ast.specs.declared.program.BlockKind.TheVariants.{Regular}
-use Rattle.mr_ast.specs.declared.program.Function.{Function}
-use Rattle.mr_ast.specs.declared.program.Intrinsic.TheVariants as intrinsic
 use Rattle.mr_ast.specs.declared.program.Item_.{Item_}
-use Rattle.mr_ast.specs.declared.program.Item_.TheVariants as item
-use Rattle.mr_ast.specs.declared.program.Local.{Local}
-use Rattle.mr_ast.specs.declared.program.Program.{Program}
-use Rattle.mr_ast.specs.declared.program.Stmt.{Stmt}
-use Rattle.mr_ast.specs.declared.program.Stmt.TheVariants as stmt
 use Rattle.mr_layout.specs.Rules.{tuple_rules}
 use Rattle.mr_layout.specs.TypeOk.{TypeOk}
 use Rattle.mr_layout.proofs.BrokenLaws.{broken_int, broken_raw, broken_tuple}
 use Rattle.mr_typing.specs.Unbroken.{UnbrokenBlock, UnbrokenFunction, UnbrokenGlobal, UnbrokenProgram}
-use Rattle.mr_typing.specs.Blocks.{broken_in_stmt, goes_to}
-use Rattle.mr_typing.specs.Broken.{Surroundings, sizes_of, surroundings}
 use Rattle.mr_typing.specs.Walk.{is_target}
-use Rattle.mr_gen.specs.Generated.{advance_block, begin_block, count_block, counter, counter_global, enter_block, exit_block, finish_block, handle, increment, join_block, last_stmts, local, lock_block, main_blocks, main_function, main_locals, print_block, program_with, round, spawn_block, test_block, u32_value, u64_value, unit, worker_blocks, worker_function, worker_locals}
+use Rattle.mr_gen.specs.Generated.{main_locals, worker_locals}
+use Rattle.mr_ast.specs.declared.types.Ty.TheVariants as ty
+use Rattle.mr_ast.specs.declared.expr.Value.TheVariants as value
+use Rattle.mr_ast.specs.declared.program.Intrinsic.TheVariants as intrinsic
+use Rattle.mr_ast.specs.declared.program.Item_.TheVariants as item
+use Rattle.mr_ast.specs.declared.program.Stmt.TheVariants as stmt
 use Rattle.mr_gen.proofs.MainBlocks.{All-main_blocks, all_regular, goes_regular, length-main_blocks}
 use Rattle.mr_gen.proofs.UnbrokenParts.{SoundPlace, acquire_fits, join_fits, print_fits, release_fits, sound_counter, sound_int, sound_load, sound_local, unbroken_action, unbroken_assign, unbroken_increment, unbroken_lock, unbroken_spawn, unbroken_test}
 

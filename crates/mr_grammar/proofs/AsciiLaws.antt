@@ -1,19 +1,16 @@
 -- The tokens of a text are ASCII, and no more than its bytes.
-use Rattle.std.proofs.Common.{◌≡◌, ℕ, zero, suc, ◌+◌, ◌^◌, ◌<◌, ◌≤◌, Bool, true, List, [], ◌∷◌, length, length-append, slice_get, refl, ap, subst, arith}
-use Rattle.std.specs.Prelude.{IsTrue}
-use Rattle.std.specs.List.{AllByRecursion}
+use Rattle.mr_grammar.proofs.Common.{◌≡◌, ℕ, zero, suc, ◌+◌, ◌^◌, ◌<◌, ◌≤◌, Bool, true, List, [], ◌∷◌, length, length-append, refl, ap, subst, arith, IsTrue, AllByRecursion, nat_tests, Blank, IsSymbol, Piece, spelling_of, Lexeme, lexemes_at, lexemes_from, words_of}
+use Rattle.std.proofs.Common.{slice_get}
 use Rattle.std.specs.Str.{IsAscii}
-use Rattle.std.proofs.lemmas.Bool.Decides.{nat_tests}
 use Rattle.mr_lex.specs.Bytes.{is_digit, is_word_byte}
-use Rattle.mr_lex.specs.Pieces.{ArePieces, Blank, IsSymbol, Piece, row_of, spelling_of}
-use Rattle.mr_lex.specs.Tokens.{Lexeme, Lexes, lexemes_at, lexemes_from}
+use Rattle.mr_lex.specs.Pieces.{ArePieces, row_of}
+use Rattle.mr_lex.specs.Tokens.{Lexes}
 use Rattle.mr_lex.specs.declared.token.TokenKind.{TokenKind}
-use Rattle.mr_lex.specs.declared.token.TokenKind.TheVariants as kinds
 use Rattle.mr_lex.proofs.PieceLaws.{spelling_some}
 use Rattle.mr_lex.proofs.ShapeLaws.{HasShape, IsShaped, lexes_shaped}
 use Rattle.mr_words.specs.Defined.{text_at}
-use Rattle.mr_words.specs.Places.{words_of}
 use Rattle.mr_words.proofs.TextLaws.{text_at_place, text_of}
+use Rattle.mr_lex.specs.declared.token.TokenKind.TheVariants as kinds
 
 none_ascii : IsAscii []
 none_ascii i = omega arith

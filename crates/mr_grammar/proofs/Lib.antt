@@ -1,5 +1,6 @@
 pub mod AsciiLaws
 pub mod Canon
+mod Common
 pub mod Names
 pub mod ParsingLaws
 pub mod Shape

@@ -1,19 +1,10 @@
 -- Parsing a text gives the program that it denotes, or its first fault.
-use Rattle.std.proofs.Common.{◌≡◌, ◌⊎◌, inl, inr, ℕ, List, Result, Ok, Err, refl, ap, sym, ◌∙◌, subst}
-use Rattle.mr_ast.specs.declared.program.Program.{Program}
-use Rattle.mr_ast.specs.Forms.{Word}
-use Rattle.mr_ast.specs.ProgramGrammar.{ProgramBody}
-use Rattle.mr_lex.specs.Tokens.{Lexeme}
+use Rattle.mr_grammar.proofs.Common.{◌≡◌, ◌⊎◌, inl, inr, ℕ, List, Result, Ok, Err, refl, ap, sym, ◌∙◌, subst, Program, Word, ProgramBody, Lexeme, Stop, words_of, Denotes, Writes, definitions_in, program_of, knowing, unknown, ◌>>=◌}
 use Rattle.mr_lex.specs.Reading.{lexed}
 use Rattle.mr_lex.specs.declared.token.TextFault.{TextFault}
-use Rattle.mr_words.specs.declared.fault.Stop.{Stop}
-use Rattle.mr_words.specs.Places.{words_of}
-use Rattle.mr_grammar.specs.Denotes.{Denotes, Writes, definitions_in, program_of}
-use Rattle.mr_words.specs.Defined.{knowing, unknown}
 use Rattle.mr_grammar.specs.Faults.{BreaksFirst, FirstFault, OfTokens, OfGrammar, OfNames}
 use Rattle.mr_words.specs.TextFaults.{fault_at}
 use Rattle.mr_grammar.specs.Parsing.{body_of, parsed, program_in}
-use Rattle.mr_grammar.specs.Reading.{◌>>=◌}
 use Rattle.mr_grammar.proofs.Stops.BodyLaws.{body_writes, writes_body, body_breaks, breaks_body}
 
 -- The words are in the grammar whatever their names stand for, and where names stand for what the words define, they write the program.

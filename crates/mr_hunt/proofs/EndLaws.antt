@@ -1,12 +1,9 @@
 -- Ends of one kind.
-use Rattle.std.proofs.Common.{◌≡◌, ℕ, Bool, true, false, refl, sym, ap, ap₂, ◌∙◌}
+use Rattle.mr_hunt.proofs.Common.{◌≡◌, ℕ, Bool, true, false, refl, sym, ap, ap₂, ◌∙◌, ◌&&◌, ◌==◌, Option, None, Some, End, same_end, verdict_number}
 use Rattle.std.proofs.lemmas.Bool.{eq-eqb, eqb-true}
-use Rattle.std.specs.Prelude.{◌&&◌, ◌==◌, Option, None, Some}
 use Rattle.mr_labels.specs.declared.step.Stand.{Stand}
 use Rattle.mr_listing.specs.Races.{same_stand}
-use Rattle.mr_hunt.specs.declared.ends.End.{End}
 use Rattle.mr_hunt.specs.declared.ends.End.TheVariants as shown
-use Rattle.mr_hunt.specs.Ends.{same_end, verdict_number}
 
 both : (a b : Bool) → (a && b) ≡ true → (a ≡ true) × (b ≡ true)
 both true b e = (refl, e)

@@ -1,11 +1,7 @@
 -- The table of three numbers, computed.
-use Rattle.std.proofs.Common.{◌≡◌, ℕ, zero, suc, List, [], ◌∷◌, refl}
-use Rattle.std.specs.Prelude.{None, Some}
+use Rattle.mr_hunt.proofs.Common.{◌≡◌, ℕ, zero, suc, List, [], ◌∷◌, refl, None, Some, Row, End, numbers, table_of}
 use Rattle.mr_base.specs.declared.reason.Verdict.TheVariants.{Deadlock, Exit}
-use Rattle.mr_hunt.specs.declared.counting.Row.{Row}
-use Rattle.mr_hunt.specs.declared.ends.End.{End}
 use Rattle.mr_hunt.specs.declared.ends.End.TheVariants as shown
-use Rattle.mr_hunt.specs.Table.{numbers, table_of}
 
 -- a race of a thread at a statement, and of one that stands nowhere
 abbrev race_of : ℕ → End

@@ -1,4 +1,5 @@
 pub mod AimLaws
+mod Common
 pub mod EndLaws
 mod Examples
 pub mod RunFaults

@@ -1,17 +1,14 @@
 -- A legal schedule breaks no rule; and a drawn one is not long.
-use Rattle.std.proofs.Common.{◌≡◌, ℕ, zero, suc, ◌≤◌, ◌^◌, Bool, true, false, arith, length, sym, ◌∙◌, List, []}
-use Rattle.std.specs.Prelude.{Option, None, Some}
+use Rattle.mr_hunt.proofs.Common.{◌≡◌, ℕ, zero, suc, ◌≤◌, ◌^◌, Bool, true, false, arith, length, sym, ◌∙◌, List, [], Option, None, Some, Schedule, Config, drawn_schedule}
 use Rattle.mr_ast.specs.declared.program.Program.{Program}
 use Rattle.mr_sched.specs.declared.chooser.Chooser.{Chooser}
 use Rattle.mr_sched.specs.declared.schedule.Entry.{Entry}
-use Rattle.mr_sched.specs.declared.schedule.Schedule.{Schedule}
 use Rattle.mr_auto.specs.StartFrameFrames.{Look}
-use Rattle.mr_step.specs.PlanRuns.{Config}
 use Rattle.mr_auto.specs.StartSteps.{Own}
 use Rattle.mr_auto.specs.StartRuns.{Legal, PlacedFault, program_step, schedule_fault}
 use Rattle.mr_auto.specs.StartStart.{look_of, start_config}
 use Rattle.mr_auto.proofs.StartRunLaws.{no_schedule_fault}
-use Rattle.mr_auto.specs.Drawing.{Next, Picked, drawn_entries, drawn_schedule, led, next_at, schedule_from, start_picked}
+use Rattle.mr_auto.specs.Drawing.{Next, Picked, drawn_entries, led, next_at, schedule_from, start_picked}
 
 none_some : {A : Type 0} {x : A} → ◌≡◌ {A = Option A} None (Some x) → ⊥
 none_some e = cc

@@ -1,21 +1,14 @@
 -- The run of a number, which its schedule was drawn in.
-use Rattle.std.proofs.Common.{◌≡◌, ℕ, ◌∙◌, List, ◌∷◌, ap, map, sym}
+use Rattle.mr_hunt.proofs.Common.{◌≡◌, ℕ, ◌∙◌, List, ◌∷◌, ap, map, sym, Pair, Schedule, Config, Printed, steps_of, drawn_schedule, End, stands_of, ends_of, race_at}
 use Rattle.mr_ast.specs.declared.program.Program.{Program}
 use Rattle.mr_base.specs.declared.reason.Verdict.{Verdict}
 use Rattle.mr_event.specs.Footprint.{Footprint}
 use Rattle.mr_event.specs.Predicted.{predicted}
-use Rattle.mr_event.specs.declared.footprint.Pair.{Pair}
-use Rattle.mr_sched.specs.declared.schedule.Schedule.{Schedule}
-use Rattle.mr_step.specs.PlanRuns.{Config, Printed}
 use Rattle.mr_step.specs.Standing.{Standing}
-use Rattle.mr_auto.specs.StartRuns.{run_of, steps_of}
+use Rattle.mr_auto.specs.StartRuns.{run_of}
 use Rattle.mr_auto.specs.StartSteps.{Own}
 use Rattle.mr_run.specs.Runs.{IsRun}
-use Rattle.mr_auto.specs.Drawing.{drawn_schedule}
-use Rattle.mr_hunt.specs.declared.ends.End.{End}
 use Rattle.mr_hunt.specs.declared.ends.End.TheVariants as shown
-use Rattle.mr_replay.specs.Stands.{stands_of}
-use Rattle.mr_hunt.specs.Ends.{ends_of, race_at}
 
 module _ (p : Program) (number most : ℕ) (w : Schedule) (m : Standing) (same : w ≡ drawn_schedule p number most)
     (run : IsRun p w m) where

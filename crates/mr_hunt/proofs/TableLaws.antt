@@ -1,6 +1,6 @@
 -- The table of numbers, one number after the other; and what it says.
-use Rattle.std.proofs.Common.{◌≡◌, ℕ, zero, suc, ◌+◌, ◌-◌, ◌<◌, ◌≤◌, ◌^◌, ◌⊎◌, inl, inr, Bool, true, false, cond, arith}
-use Rattle.std.proofs.Common.{List, [], ◌∷◌, ◌++◌, append-nil, get_or, length, map, take, refl, sym, ap, ap₂, ◌∙◌}
+use Rattle.mr_hunt.proofs.Common.{◌≡◌, ℕ, zero, suc, ◌+◌, ◌-◌, ◌<◌, ◌≤◌, ◌^◌, ◌⊎◌, inl, inr, Bool, true, false, cond, arith, List, [], ◌∷◌, ◌++◌, get_or, length, map, take, refl, sym, ap, ap₂, ◌∙◌, ◌||◌, ◌&&◌, not, All, flat_map, list_any, range_with_len, End, Row, same_end, IsTable, counted, is_listed, joined, new_row, numbers, once, table_of}
+use Rattle.std.proofs.Common.{append-nil}
 use Rattle.std.proofs.lemmas.Bool.{cases_lt}
 use Rattle.std.proofs.lemmas.List.{map-append, take_more}
 use Rattle.std.proofs.lemmas.List.Concat.{flat_map-append}
@@ -8,14 +8,10 @@ use Rattle.std.proofs.lemmas.List.Elements.{All-map, filter-append, filter_agree
 use Rattle.std.proofs.lemmas.List.Folds.{list_any-append}
 use Rattle.std.proofs.lemmas.List.FromFn.{length-range_with_len}
 use Rattle.std.proofs.lemmas.List.Sums.{count_by-le-length}
-use Rattle.std.specs.Prelude.{◌||◌, ◌&&◌, not, All, count_by, flat_map, if◌then◌else◌}
-use Rattle.std.specs.List.{filter, fold, list_any, range_with_len}
+use Rattle.std.specs.Prelude.{count_by, if◌then◌else◌}
+use Rattle.std.specs.List.{filter, fold}
 use Rattle.mr_listing.proofs.PartnerLaws.{filter_twice}
-use Rattle.mr_hunt.specs.declared.ends.End.{End}
-use Rattle.mr_hunt.specs.declared.counting.Row.{Row}
-use Rattle.mr_hunt.specs.Ends.{same_end}
-use Rattle.mr_hunt.specs.Table.{IsRow, IsTable, counted, first_of, has_end, is_listed, is_other, joined, new_row, numbers}
-use Rattle.mr_hunt.specs.Table.{once, row_of, table_of}
+use Rattle.mr_hunt.specs.Table.{IsRow, first_of, has_end, is_other, row_of}
 use Rattle.mr_hunt.proofs.EndLaws.{end_agrees, end_itself}
 
 -- ---- each kind once

@@ -1,33 +1,14 @@
 -- What the arguments of an intrinsic are, where their types fit it.
-use Rattle.std.proofs.Common.{◌≡◌, ℕ, ◌<◌, ◌*◌, ◌^◌, arith, refl, subst, sym, ap, ◌∙◌, List, [], ◌∷◌, Option, Some, None, Bool, true, false}
-use Rattle.std.proofs.lemmas.Option.{same_Some}
-use Rattle.std.specs.Prelude.{◌&&◌, is_some, nat_le, slice_get}
-use Rattle.std.proofs.lemmas.Bool.{and_parts}
-use Rattle.mr_ast.specs.Integers.{int_size}
-use Rattle.mr_ast.specs.declared.program.Intrinsic.{Intrinsic}
-use Rattle.mr_ast.specs.declared.program.Intrinsic.TheVariants as intrinsic
-use Rattle.mr_ast.specs.declared.types.IntType.{IntType}
-use Rattle.mr_ast.specs.declared.types.IntType.TheVariants.{U8, U16, U32, U64, U128, I8, I16, I32, I64, I128}
-use Rattle.mr_ast.specs.declared.types.Ty.{Ty}
-use Rattle.mr_ast.specs.declared.types.Ty.TheVariants as ty
-use Rattle.mr_base.specs.declared.byte.Pointer.{Pointer}
-use Rattle.mr_base.proofs.Comparisons.{lt_from}
-use Rattle.mr_layout.specs.Sizes.{size_of}
-use Rattle.mr_value.specs.declared.val.Val.{Val}
-use Rattle.mr_value.specs.declared.val.Val.TheVariants as val
-use Rattle.mr_value.specs.Shape.{has_shape}
-use Rattle.mr_value.proofs.ShapeLaws.{shape_int, shape_raw}
-use Rattle.mr_typing.specs.Intrinsics.{fits_intrinsic, gives, gives_nothing, is_atomic}
-use Rattle.mr_typing.specs.Operands.{is_bool, is_int, is_integer, is_raw}
+use Rattle.mr_intr.proofs.Common.{◌≡◌, ℕ, ◌<◌, ◌*◌, ◌^◌, arith, refl, subst, sym, ap, ◌∙◌, List, [], ◌∷◌, Option, Some, None, Bool, true, false, same_Some, ◌&&◌, is_some, nat_le, slice_get, and_parts, int_size, Intrinsic, IntType, U32, U64, Ty, Pointer, lt_from, size_of, Val, has_shape, shape_int, fits_intrinsic, gives, gives_nothing, is_atomic, is_bool, is_int, is_integer, is_raw, integer_of, same_type_equal, HaveShapes, IsFetch, Fits}
+use Rattle.mr_ast.specs.declared.types.IntType.TheVariants.{U8, U16, U128, I8, I16, I32, I64, I128}
+use Rattle.mr_value.proofs.ShapeLaws.{shape_raw}
 use Rattle.mr_typing.specs.SameTypes.{same_type}
-use Rattle.mr_typing.specs.Types.{integer_of}
 use Rattle.mr_typing.proofs.KindLaws.{integer_is, raw_is}
-use Rattle.mr_typing.proofs.SameTypeLaws.{same_type_equal}
-use Rattle.mr_eval.specs.Shapes.{HaveShapes}
-use Rattle.mr_intr.specs.Atomics.{IsFetch}
-use Rattle.mr_intr.specs.Effects.{Fits}
-use Rattle.mr_intr.proofs.OperationSafe.{no_result, result_is}
 use Rattle.mr_eval.proofs.ScalarLaws.{truth_value}
+use Rattle.mr_ast.specs.declared.program.Intrinsic.TheVariants as intrinsic
+use Rattle.mr_ast.specs.declared.types.Ty.TheVariants as ty
+use Rattle.mr_value.specs.declared.val.Val.TheVariants as val
+use Rattle.mr_intr.proofs.OperationSafe.{no_result, result_is}
 
 -- ---- values of a type
 

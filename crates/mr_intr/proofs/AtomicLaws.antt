@@ -1,26 +1,17 @@
 -- Atomic accesses to integers, and what a read and a change in one comes to.
-use Rattle.std.proofs.Common.{◌≡◌, ℕ, ◌*◌, ◌^◌, ◌<◌, refl, subst, sym, ap, ◌∙◌, Option, Some, None, Ok}
-use Rattle.std.proofs.lemmas.Option.{same_Some}
+use Rattle.mr_intr.proofs.Common.{◌≡◌, ℕ, ◌*◌, ◌^◌, ◌<◌, refl, subst, sym, ap, ◌∙◌, Option, Some, None, Ok, same_Some, int_size, IntType, size_int, Val, out-Val, encoding_of, Bytes, number_of, number_bytes, number_in}
 use Rattle.std.specs.Prelude.{option_map}
-use Rattle.mr_ast.specs.Integers.{int_size}
-use Rattle.mr_ast.specs.declared.types.IntType.{IntType}
-use Rattle.mr_ast.specs.declared.types.Ty.TheVariants as ty
 use Rattle.mr_layout.proofs.BrokenLaws.{int_ok}
-use Rattle.mr_layout.proofs.SizeLaws.{size_int}
 use Rattle.mr_eval.specs.Arith.{arith_of}
 use Rattle.mr_eval.specs.declared.arithmetic.ArithOp.{ArithOp}
 use Rattle.mr_eval.proofs.Within.{arith_of-within}
-use Rattle.mr_value.specs.declared.val.Val.{Val, out-Val}
-use Rattle.mr_value.specs.declared.val.Val.TheVariants as val
 use Rattle.mr_value.specs.Decode.{decoded}
-use Rattle.mr_value.specs.Encode.{encoding_of}
-use Rattle.mr_value.specs.Numbers.{Bytes, number_of}
 use Rattle.mr_value.proofs.DecodeLaws.{decode_int}
 use Rattle.mr_value.proofs.EncodeLaws.{encode_int}
-use Rattle.mr_eval.specs.MemoryQueries.{number_bytes}
-use Rattle.mr_intr.specs.Operations.{number_in}
-use Rattle.mr_intr.proofs.OperatedLaws.{int_number}
 use Rattle.mr_eval.proofs.OperatorsSafe.{width}
+use Rattle.mr_ast.specs.declared.types.Ty.TheVariants as ty
+use Rattle.mr_value.specs.declared.val.Val.TheVariants as val
+use Rattle.mr_intr.proofs.OperatedLaws.{int_number}
 
 -- ---- an integer's bits and bytes
 

@@ -1,57 +1,29 @@
 -- What atomic accesses come to, by the loads and stores that the code makes.
-use Rattle.std.proofs.Common.{◌≡◌, ℕ, ◌*◌, ◌^◌, ◌<◌, refl, subst, sym, ap, ◌∙◌, List, [], ◌∷◌, Option, Some, None, Bool, true, false, Result, Ok, Err}
+use Rattle.mr_intr.proofs.Common.{◌≡◌, ℕ, ◌*◌, ◌^◌, ◌<◌, refl, subst, sym, ap, ◌∙◌, List, [], ◌∷◌, Option, Some, None, Bool, true, false, Result, Ok, Err, Stop, reached_by, stop_with, eq_test, lt_test, if◌then◌else◌, slice_get, same_Some, int_size, Intrinsic, IntType, Ty, out-Ty, AbstractByte, Pointer, Reason, align_of, size_int, Memory, read, written, Val, has_int, encoding_of, Bytes, number_of, Done, Ask, ◌>>=◌, Outcome, Broken, Went, Refused, on, run, seen, Modify, Write, memory_answer, number_bytes, reading_part, Read, accessing, seeing, World, tally_of, world_of, Scene, Tables, Notes, OfMemory, Shared, answer, in_shared, memory_part, IsFetch, numbered, Does, Fits, FitsPlace, IsDone, Prints, begun, notes_in, operated, exchanged, fetched, found, loaded, modify, Effect, integer_in}
 use Rattle.mr_base.specs.declared.reason.Reason.TheVariants.{InvalidValue}
-use Rattle.mr_base.specs.Stops.{Stop, over, reached_by, stop_with}
+use Rattle.mr_base.specs.Stops.{over}
 use Rattle.mr_base.specs.declared.reached.Reached.{Reached}
 use Rattle.mr_base.specs.declared.reached.Reaching.{Reaching}
 use Rattle.mr_base.specs.declared.reached.Reaching.TheVariants.{Changes, Loads}
-use Rattle.mr_base.proofs.Comparisons.{eq_test, lt_test}
-use Rattle.std.specs.Prelude.{if◌then◌else◌, slice_get}
-use Rattle.std.proofs.lemmas.Option.{same_Some}
 use Rattle.std.specs.Result.{IsErrAnd}
-use Rattle.mr_ast.specs.Integers.{int_size}
-use Rattle.mr_ast.specs.declared.program.Intrinsic.{Intrinsic}
-use Rattle.mr_ast.specs.declared.program.Intrinsic.TheVariants as intrinsic
-use Rattle.mr_ast.specs.declared.types.IntType.{IntType}
-use Rattle.mr_ast.specs.declared.types.Ty.{Ty, out-Ty}
-use Rattle.mr_ast.specs.declared.types.Ty.TheVariants as ty
-use Rattle.mr_base.specs.declared.byte.AbstractByte.{AbstractByte}
-use Rattle.mr_base.specs.declared.byte.Pointer.{Pointer}
-use Rattle.mr_base.specs.declared.reason.Reason.{Reason}
-use Rattle.mr_layout.specs.Sizes.{align_of}
 use Rattle.mr_layout.proofs.AlignLaws.{align_int}
-use Rattle.mr_layout.proofs.SizeLaws.{size_int}
-use Rattle.mr_mem.specs.Memory.{Memory, read, written}
 use Rattle.mr_mem.proofs.SpeakingLaws.{SpeakResult, read_speaks, written_speaks}
 use Rattle.mr_eval.proofs.RefusedLaws.{answer_refused, refused_leaves}
 use Rattle.mr_mem.specs.Stored.{IsStored}
 use Rattle.mr_mem.specs.declared.fault.Fault.{Fault}
-use Rattle.mr_mem.specs.declared.fault.Fault.TheVariants as fault
-use Rattle.mr_value.specs.declared.val.Val.{Val}
-use Rattle.mr_value.specs.declared.val.Val.TheVariants as val
-use Rattle.mr_value.proofs.ShapeLaws.{has_int}
-use Rattle.mr_value.specs.Encode.{encoding_of}
-use Rattle.mr_value.specs.Numbers.{Bytes, number_of}
-use Rattle.mr_base.specs.Script.{Done, Ask, ◌>>=◌, Outcome, Broken, Went, Refused, on, run}
-use Rattle.mr_eval.specs.Answers.{seen}
 use Rattle.mr_eval.specs.Environment.{Leaves, Tells}
-use Rattle.mr_eval.specs.MemoryQueries.{Modify, Write, changing, memory_answer, number_bytes, reading_part, replacing}
-use Rattle.mr_eval.specs.Reads.{Read, Seen, accessing, answered, lending, seeing, touching}
+use Rattle.mr_eval.specs.MemoryQueries.{changing, replacing}
+use Rattle.mr_eval.specs.Reads.{Seen, answered, lending, touching}
 use Rattle.mr_eval.specs.Stores.{storing}
 use Rattle.mr_eval.specs.Tally.{Tally, seen_of, with_seen}
-use Rattle.mr_eval.specs.World.{World, tally_of, world_of}
-use Rattle.mr_eval.specs.declared.scene.Scene.{Scene}
-use Rattle.mr_sync.specs.Tables.{Tables}
-use Rattle.mr_plan.specs.Notes.{Notes}
-use Rattle.mr_plan.specs.Queries.{OfMemory, Shared, answer, in_shared, memory_part}
-use Rattle.mr_intr.specs.Atomics.{IsFetch, number_read, number_written, numbered}
-use Rattle.mr_intr.specs.Effects.{Does, Fits, FitsPlace, IsDone, Prints, begun, notes_in, operated}
-use Rattle.mr_intr.specs.Operations.{exchanged, fetched, found, loaded, modify}
-use Rattle.mr_intr.specs.declared.effect.Effect.{Effect}
+use Rattle.mr_intr.specs.Atomics.{number_read, number_written}
+use Rattle.mr_ast.specs.declared.program.Intrinsic.TheVariants as intrinsic
+use Rattle.mr_ast.specs.declared.types.Ty.TheVariants as ty
+use Rattle.mr_mem.specs.declared.fault.Fault.TheVariants as fault
+use Rattle.mr_value.specs.declared.val.Val.TheVariants as val
 use Rattle.mr_intr.proofs.Arguments.{TakesStore, atomic_load_takes, exchange_takes, fetch_takes, one_read, three_read, two_read}
 use Rattle.mr_intr.proofs.AtomicLaws.{same_bits}
 use Rattle.mr_intr.proofs.OperatedLaws.{asked, int_number, ptr_pointer, quiet}
-use Rattle.mr_typing.specs.Types.{integer_in}
 
 -- ---- faults that are handed on
 

@@ -1,11 +1,7 @@
 -- What holds of the script of each intrinsic holds of every operation.
-use Rattle.std.proofs.Common.{List, [], ◌∷◌, Option, Some}
-use Rattle.mr_ast.specs.declared.program.Intrinsic.{Intrinsic}
-use Rattle.mr_ast.specs.declared.program.Intrinsic.TheVariants as intrinsic
-use Rattle.mr_ast.specs.declared.types.Ty.{Ty}
+use Rattle.mr_intr.proofs.Common.{List, [], ◌∷◌, Option, Some, Intrinsic, Ty, Val, Operation, acquire, allocate, assume, atomic_load, atomic_store, compare_exchange, create_lock, deallocate, fetch, join, operation, print, release}
 use Rattle.mr_base.specs.Script.{IllFormed}
-use Rattle.mr_value.specs.declared.val.Val.{Val}
-use Rattle.mr_intr.specs.Operations.{Operation, acquire, allocate, assume, atomic_load, atomic_store, compare_exchange, create_lock, deallocate, fetch, join, operation, print, release}
+use Rattle.mr_ast.specs.declared.program.Intrinsic.TheVariants as intrinsic
 
 -- it holds of each script, and where an intrinsic has no rule
 pub record OfEach (P : Operation → Type 0) : Type 0 where

@@ -1,36 +1,16 @@
 -- An allocation on the heap, by the reason against it.
-use Rattle.std.proofs.Common.{◌≡◌, ℕ, ◌<◌, ◌+◌, ◌-◌, ◌^◌, refl, subst, ap, ◌∙◌, arith, List, [], ◌∷◌, get_or, Option, Some, None, Bool, true, false}
-use Rattle.std.specs.Prelude.{if◌then◌else◌, nat_lt, slice_get}
+use Rattle.mr_intr.proofs.Common.{◌≡◌, ℕ, ◌<◌, ◌+◌, ◌-◌, ◌^◌, refl, subst, ap, ◌∙◌, arith, List, [], ◌∷◌, get_or, Option, Some, None, Bool, true, false, if◌then◌else◌, nat_lt, slice_get, plainly, Ty, Heap, Reason, BadAlign, SizeTooLarge, Status, ranges_of, Address, Val, Allocate, Free, Scene, Tables, creation_fault, needs_fault, picks_fault, CreatesNothing, needs_of, Notes, OfMemory, Shared, answer, no_faults, AreLawful, CanTake, begun, operated, shared_in, allocation_fault, Operation, allocating, found, is_power_of_two, operation, with_pick, Pointer}
 use Rattle.std.proofs.lemmas.Bool.Decides.{nat_tests}
-use Rattle.mr_base.specs.Stops.{plainly}
-use Rattle.mr_ast.specs.declared.program.Intrinsic.TheVariants as intrinsic
-use Rattle.mr_ast.specs.declared.types.Ty.{Ty}
-use Rattle.mr_base.specs.declared.byte.Kind.TheVariants.{Heap}
-use Rattle.mr_base.specs.declared.reason.Reason.{Reason}
-use Rattle.mr_base.specs.declared.reason.Reason.TheVariants.{BadAlign, SizeTooLarge}
-use Rattle.mr_base.specs.declared.thread.Status.{Status}
-use Rattle.mr_mem.specs.Memory.{IsPowerOfTwo, Ranges, range_fault, ranges_of, with_range}
+use Rattle.mr_mem.specs.Memory.{IsPowerOfTwo, Ranges, range_fault, with_range}
 use Rattle.mr_mem.specs.declared.fault.PickFault.{PickFault}
 use Rattle.mr_mem.specs.declared.fault.PickFault.TheVariants.{BadAddress, Reused}
-use Rattle.mr_sched.specs.declared.schedule.Ask.TheVariants.{Address}
-use Rattle.mr_value.specs.declared.val.Val.{Val}
+use Rattle.mr_plan.specs.Legal.{address_fault}
+use Rattle.mr_mem.proofs.Powers.{one_bit_power}
+use Rattle.mr_ast.specs.declared.program.Intrinsic.TheVariants as intrinsic
 use Rattle.mr_value.specs.declared.val.Val.TheVariants as val
 use Rattle.mr_base.specs.Script.{Done, Undefined, Ask as Asks, ◌>>=◌, Refused, run}
-use Rattle.mr_eval.specs.MemoryQueries.{Allocate, Free}
-use Rattle.mr_eval.specs.declared.scene.Scene.{Scene}
-use Rattle.mr_sync.specs.Tables.{Tables}
-use Rattle.mr_plan.specs.Legal.{address_fault, creation_fault, needs_fault, picks_fault}
-use Rattle.mr_plan.specs.Machine.{CreatesNothing, needs_of}
-use Rattle.mr_plan.specs.Notes.{Notes}
-use Rattle.mr_plan.specs.Queries.{OfMemory, Shared, answer}
-use Rattle.mr_plan.proofs.LegalLaws.{no_faults}
-use Rattle.mr_intr.specs.Effects.{AreLawful, CanTake, begun, operated, shared_in}
-use Rattle.mr_intr.specs.Heap.{allocation_fault}
-use Rattle.mr_intr.specs.Operations.{Operation, allocating, found, is_power_of_two, operation, with_pick}
-use Rattle.mr_base.specs.declared.byte.Pointer.{Pointer}
 use Rattle.mr_intr.proofs.Arguments.{allocate_takes, deallocate_takes, three_read, two_read}
 use Rattle.mr_intr.proofs.OperatedLaws.{asked, int_number, operated_allocate, operated_deallocate}
-use Rattle.mr_mem.proofs.Powers.{one_bit_power}
 
 -- ---- by the reason against it
 

@@ -1,26 +1,11 @@
 -- What an intrinsic's operation leaves, on the way to what the next state keeps.
-use Rattle.std.proofs.Common.{◌≡◌, ◌≢◌, ℕ, ◌<◌, refl, subst, sym, ap, ◌∙◌, List, length, Option, Some, None, false}
-use Rattle.std.specs.Prelude.{slice_get}
-use Rattle.mr_ast.specs.declared.types.Ty.{Ty}
-use Rattle.mr_base.specs.declared.thread.Status.TheVariants.{Enabled}
-use Rattle.mr_mem.specs.Memory.{Memory}
-use Rattle.mr_value.specs.declared.val.Val.{Val}
-use Rattle.mr_base.specs.Script.{run}
-use Rattle.mr_eval.specs.MemoryQueries.{MemoryScript}
+use Rattle.mr_intr.proofs.Common.{◌≡◌, ◌≢◌, ℕ, ◌<◌, refl, subst, sym, ap, ◌∙◌, List, length, Option, Some, None, false, slice_get, Ty, Enabled, Memory, Val, run, MemoryScript, IsSoundTables, over, needs_fault, Plan, Notes, start_notes, Shared, StepScript, answer, memory_part, tables_of, AreHeld, Slot, Leaves, Left, leaves_then, After, FitsPlace}
 use Rattle.mr_eval.specs.Tally.{Tally}
-use Rattle.mr_sync.specs.Sound.{IsSoundTables}
-use Rattle.mr_sync.specs.Tables.{over}
-use Rattle.mr_plan.specs.Legal.{needs_fault}
-use Rattle.mr_plan.specs.Machine.{Plan}
-use Rattle.mr_plan.specs.Notes.{Notes, start_notes}
-use Rattle.mr_plan.specs.Queries.{Shared, StepScript, answer, memory_part, tables_of}
 use Rattle.mr_plan.specs.Safety.{IsSafeChange}
-use Rattle.mr_plan.specs.Storage.{AreHeld, Slot}
 use Rattle.mr_plan.proofs.MemoryFacts.{MemoryFacts}
-use Rattle.mr_plan.proofs.MemoryParts.{Leaves, Left, leaves_then, memory_after}
-use Rattle.mr_plan.proofs.Outcomes.{After, after_weaker}
+use Rattle.mr_plan.proofs.MemoryParts.{memory_after}
+use Rattle.mr_plan.proofs.Outcomes.{after_weaker}
 use Rattle.mr_plan.proofs.StorageRuns.{Keeps}
-use Rattle.mr_intr.specs.Effects.{FitsPlace}
 
 -- What it leaves of a state in which thread t, which can go on, began its step: sound tables, in which no thread ended or came back, and the
 -- storage of all rooms.

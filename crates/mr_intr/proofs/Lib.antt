@@ -1,6 +1,7 @@
 pub mod Arguments
 pub mod AtomicLaws
 pub mod AtomicRuns
+mod Common
 pub mod EachOperation
 pub mod HeapLaws
 pub mod Leaving

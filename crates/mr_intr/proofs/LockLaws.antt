@@ -1,38 +1,17 @@
 -- What an operation on a thread or a lock comes to, by what the tables answer.
-use Rattle.std.proofs.Common.{◌≡◌, ℕ, ◌<◌, refl, subst, sym, ap, ◌∙◌, arith, List, [], ◌∷◌, length, Option, Some, None, Bool, true, false, Result, Ok, Err, not, ◌==◌}
-use Rattle.std.proofs.lemmas.Option.{same_Some, slice_get_within}
-use Rattle.std.specs.Prelude.{slice_get, if◌then◌else◌}
-use Rattle.mr_base.specs.Stops.{stop_with}
-use Rattle.mr_ast.specs.declared.program.Intrinsic.{Intrinsic}
-use Rattle.mr_ast.specs.declared.program.Intrinsic.TheVariants as intrinsic
-use Rattle.mr_ast.specs.declared.types.Ty.{Ty}
-use Rattle.mr_base.specs.declared.reason.Reason.{Reason}
-use Rattle.mr_base.specs.declared.reason.Reason.TheVariants.{NotHolder}
+use Rattle.mr_intr.proofs.Common.{◌≡◌, ℕ, ◌<◌, refl, subst, sym, ap, ◌∙◌, arith, List, [], ◌∷◌, length, Option, Some, None, Bool, true, false, Result, Ok, Err, not, ◌==◌, same_Some, slice_get_within, slice_get, if◌then◌else◌, stop_with, Intrinsic, Ty, Reason, NotHolder, Acquire, CreateLock, Join, Release, Status, eq_test, ranges_of, Waiter, Val, tally_of, Scene, Tables, acquired, any_waits, created, handed, holding, joined, names_waiter, on_lock, released, waits, creation_fault, needs_fault, picks_fault, CreatesNothing, needs_of, Notes, Await, Shared, StepScript, TryLock, Waiting, answer, blocked, fits, giving, going, note, telling, with_tables, woke, no_faults, one_waiter, picks_length, AreLawful, CanTake, IsDone, Prints, begun, notes_in, operated, shared_in, found, operation, releasing, unlocking, Effect}
 use Rattle.mr_base.specs.declared.thread.Event.{Event}
-use Rattle.mr_base.specs.declared.thread.Event.TheVariants.{Acquire, CreateLock, Join, Release}
-use Rattle.mr_base.specs.declared.thread.Status.{Status}
-use Rattle.mr_base.proofs.Comparisons.{eq_test}
-use Rattle.mr_mem.specs.Memory.{ranges_of}
-use Rattle.mr_sched.specs.declared.schedule.Ask.TheVariants.{Waiter}
-use Rattle.mr_value.specs.declared.val.Val.{Val}
+use Rattle.mr_sync.specs.Tables.{holder_of, taken_by}
+use Rattle.mr_plan.specs.Notes.{event_of}
+use Rattle.mr_intr.specs.Arguments.{PicksThread}
+use Rattle.mr_intr.specs.Effects.{listed}
+use Rattle.mr_eval.proofs.RefusedLaws.{stop_plainly}
+use Rattle.mr_ast.specs.declared.program.Intrinsic.TheVariants as intrinsic
 use Rattle.mr_value.specs.declared.val.Val.TheVariants as val
 use Rattle.mr_base.specs.Script.{Done, Ask as Asks, ◌>>=◌, Outcome, Broken, Went, Refused, on, run}
-use Rattle.mr_eval.specs.World.{tally_of}
-use Rattle.mr_eval.specs.declared.scene.Scene.{Scene}
-use Rattle.mr_sync.specs.Tables.{Tables, acquired, any_waits, created, handed, holder_of, holding, joined, names_waiter, on_lock, released, taken_by, waits}
-use Rattle.mr_plan.specs.Legal.{creation_fault, needs_fault, picks_fault}
-use Rattle.mr_plan.specs.Machine.{CreatesNothing, needs_of}
-use Rattle.mr_plan.specs.Notes.{Notes, event_of}
-use Rattle.mr_plan.specs.Queries.{Await, Shared, StepScript, TryLock, Waiting, answer, blocked, fits, giving, going, note, telling, with_tables, woke}
-use Rattle.mr_plan.proofs.LegalLaws.{no_faults, one_waiter, picks_length}
-use Rattle.mr_intr.specs.Arguments.{PicksThread}
-use Rattle.mr_intr.specs.Effects.{AreLawful, CanTake, IsDone, Prints, begun, listed, notes_in, operated, shared_in}
-use Rattle.mr_intr.specs.Operations.{found, operation, releasing, unlocking}
-use Rattle.mr_intr.specs.declared.effect.Effect.{Effect}
 use Rattle.mr_intr.proofs.Arguments.{acquire_takes, join_takes, one_read, release_takes}
 use Rattle.mr_intr.proofs.OperatedLaws.{int_number}
 use Rattle.mr_intr.proofs.OwnReasons.{acquire_own, join_own, release_own}
-use Rattle.mr_eval.proofs.RefusedLaws.{stop_plainly}
 
 -- something done to a lock or a thread
 abbrev pub noted : Event → Effect

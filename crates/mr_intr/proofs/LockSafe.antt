@@ -1,44 +1,21 @@
 -- The operations on threads and locks have a rule, and what they leave.
-use Rattle.std.proofs.Common.{◌≡◌, ◌≢◌, ℕ, ◌<◌, ◌^◌, refl, subst, sym, ap, ◌∙◌, arith, List, [], ◌∷◌, length, inl, inr, Option, Some, None, Bool, true, false, Result, Ok, Err, not, ◌==◌}
+use Rattle.mr_intr.proofs.Common.{◌≡◌, ◌≢◌, ℕ, ◌<◌, ◌^◌, refl, subst, sym, ap, ◌∙◌, arith, List, [], ◌∷◌, length, Option, Some, None, Bool, true, false, Result, Ok, Err, not, ◌==◌, slice_get_within, slice_get, if◌then◌else◌, nat_lt, U32, Ty, lt_from, lt_test, Reason, NotHolder, Acquire, CreateLock, Join, Release, Status, Enabled, ranges_of, Waiter, Val, out-Val, has_shape, has_int, is_int, Went, Broken, on, run, IsSoundTables, Tables, acquired, any_waits, awaiting, created, handed, holding, joined, names_waiter, on_lock, over, released, trying, waits, creation_fault, picks_fault, CreatesNothing, Notes, start_notes, Await, Shared, TryLock, Waiting, answer, blocked, fits, giving, going, note, tables_of, telling, with_tables, woke, AreHeld, Slot, no_faults, one_waiter, picks_length, Leaves, After, FitsPlace, acquire, create_lock, join, number_in, release, releasing, unlocking}
+use Rattle.std.proofs.Common.{inl, inr}
 use Rattle.std.proofs.lemmas.Bool.{cases_eq}
-use Rattle.std.proofs.lemmas.Option.{slice_get_within}
 use Rattle.std.proofs.Math.ListN.{length-set}
-use Rattle.std.specs.Prelude.{slice_get, slice_set, if◌then◌else◌, nat_lt}
-use Rattle.mr_ast.specs.declared.types.IntType.TheVariants.{U32}
-use Rattle.mr_ast.specs.declared.types.Ty.{Ty}
-use Rattle.mr_ast.specs.declared.types.Ty.TheVariants as ty
-use Rattle.mr_base.proofs.Comparisons.{lt_from, lt_test}
-use Rattle.mr_base.specs.declared.reason.Reason.{Reason}
-use Rattle.mr_base.specs.declared.reason.Reason.TheVariants.{NotHolder}
+use Rattle.std.specs.Prelude.{slice_set}
 use Rattle.mr_base.specs.declared.thread.Event.{Event}
-use Rattle.mr_base.specs.declared.thread.Event.TheVariants.{Acquire, CreateLock, Join, Release}
-use Rattle.mr_base.specs.declared.thread.Status.{Status}
-use Rattle.mr_base.specs.declared.thread.Status.TheVariants.{Enabled, Ended, OnJoin, OnLock}
-use Rattle.mr_mem.specs.Memory.{ranges_of}
-use Rattle.mr_sched.specs.declared.schedule.Ask.TheVariants.{Waiter}
-use Rattle.mr_value.specs.declared.val.Val.{Val, out-Val}
-use Rattle.mr_value.specs.declared.val.Val.TheVariants as val
-use Rattle.mr_value.specs.Shape.{has_shape}
-use Rattle.mr_value.proofs.ShapeLaws.{has_int}
-use Rattle.mr_typing.specs.Operands.{is_int}
-use Rattle.mr_base.specs.Script.{Went, Broken, on, run}
-use Rattle.mr_sync.specs.Sound.{IsSoundTables}
-use Rattle.mr_sync.specs.Tables.{Tables, acquired, any_waits, awaiting, created, handed, holding, joined, names_waiter, on_lock, over, released, trying, waits}
+use Rattle.mr_base.specs.declared.thread.Status.TheVariants.{Ended, OnJoin, OnLock}
 use Rattle.mr_sync.proofs.SoundTables.{stay_sound}
-use Rattle.mr_plan.specs.Legal.{creation_fault, fault, picks_fault}
-use Rattle.mr_plan.specs.Machine.{CreatesLock, CreatesNothing}
-use Rattle.mr_plan.specs.Notes.{Notes, start_notes}
-use Rattle.mr_plan.specs.Queries.{Await, Shared, TryLock, Unlock, Waiting, answer, blocked, fits, giving, going, note, tables_of, telling, with_tables, woke}
-use Rattle.mr_plan.specs.Storage.{AreHeld, Slot}
-use Rattle.mr_plan.proofs.LegalLaws.{no_faults, one_waiter, picks_length}
-use Rattle.mr_plan.proofs.MemoryParts.{Leaves}
-use Rattle.mr_plan.proofs.Outcomes.{After}
+use Rattle.mr_plan.specs.Legal.{fault}
+use Rattle.mr_plan.specs.Machine.{CreatesLock}
+use Rattle.mr_plan.specs.Queries.{Unlock}
 use Rattle.mr_plan.proofs.Positions.{set_here}
-use Rattle.mr_intr.specs.Effects.{FitsPlace}
-use Rattle.mr_intr.specs.Operations.{acquire, create_lock, join, number_in, release, releasing, unlocking}
+use Rattle.mr_base.proofs.Lists.{set_there}
+use Rattle.mr_ast.specs.declared.types.Ty.TheVariants as ty
+use Rattle.mr_value.specs.declared.val.Val.TheVariants as val
 use Rattle.mr_intr.proofs.Leaving.{AfterOp, OpLeaves, OpPlan, with_other}
 use Rattle.mr_intr.proofs.OperationSafe.{found_then, int_there}
-use Rattle.mr_base.proofs.Lists.{set_there}
 use Rattle.mr_sched.specs.declared.rule.ScheduleRule.TheVariants as rule
 
 -- What a call leaves of sound tables in which thread t can go on: sound ones, in which no thread ended or came back.

@@ -1,30 +1,12 @@
 -- What an intrinsic needs before it acts.
-use Rattle.std.proofs.Common.{◌≡◌, ◌≢◌, ℕ, refl, subst, sym, ap, ◌∙◌, List, [], ◌∷◌, Option, Some, None, Bool, true, false, Result, Ok, Err}
-use Rattle.std.specs.Prelude.{slice_get}
-use Rattle.mr_ast.specs.declared.program.Intrinsic.{Intrinsic}
-use Rattle.mr_ast.specs.declared.program.Intrinsic.TheVariants as intrinsic
-use Rattle.mr_ast.specs.declared.types.Ty.{Ty}
-use Rattle.mr_ast.specs.declared.types.Ty.TheVariants as ty
-use Rattle.mr_base.specs.declared.byte.Pointer.{Pointer}
-use Rattle.mr_base.specs.declared.reason.Reason.{Reason}
-use Rattle.mr_base.specs.declared.thread.Event.TheVariants.{Release}
-use Rattle.mr_mem.specs.Memory.{Memory}
-use Rattle.mr_sched.specs.declared.schedule.Ask.TheVariants.{Address, Waiter}
-use Rattle.mr_value.specs.declared.val.Val.{Val}
-use Rattle.mr_value.specs.declared.val.Val.TheVariants as val
-use Rattle.mr_base.specs.Script.{Done, Undefined, IllFormed, Ask as Asks, ◌>>=◌, Outcome, Refused, Went, on, run}
-use Rattle.mr_base.specs.Stops.{plainly, speaks}
-use Rattle.mr_sync.specs.Tables.{Tables, any_waits, holding}
-use Rattle.mr_plan.specs.Machine.{CreatesNothing, Plan}
-use Rattle.mr_plan.specs.Notes.{Notes}
-use Rattle.mr_plan.specs.Queries.{Shared, StepScript, Waiting, answer, telling}
-use Rattle.mr_intr.specs.Atomics.{IsFetch}
-use Rattle.mr_intr.specs.Effects.{CanTake, Fits, IsOperation, shared_of}
-use Rattle.mr_intr.specs.Heap.{allocation_fault}
+use Rattle.mr_intr.proofs.Common.{◌≡◌, ◌≢◌, ℕ, refl, subst, sym, ap, ◌∙◌, List, [], ◌∷◌, Option, Some, None, Bool, true, false, Result, Ok, Err, slice_get, Intrinsic, Ty, Pointer, Reason, Release, Memory, Address, Waiter, Val, plainly, speaks, Tables, any_waits, holding, CreatesNothing, Plan, Notes, Shared, StepScript, Waiting, answer, telling, IsFetch, CanTake, Fits, IsOperation, shared_of, allocation_fault, Operation, found, operation, releasing}
 use Rattle.mr_intr.specs.Needs.{IsPlanned}
-use Rattle.mr_intr.specs.Operations.{Operation, found, operation, releasing}
 use Rattle.mr_intr.specs.declared.need.Creation.TheVariants.{Lock, Nothing}
 use Rattle.mr_intr.specs.declared.need.Needs.{Needs}
+use Rattle.mr_ast.specs.declared.program.Intrinsic.TheVariants as intrinsic
+use Rattle.mr_ast.specs.declared.types.Ty.TheVariants as ty
+use Rattle.mr_value.specs.declared.val.Val.TheVariants as val
+use Rattle.mr_base.specs.Script.{Done, Undefined, IllFormed, Ask as Asks, ◌>>=◌, Outcome, Refused, Went, on, run}
 use Rattle.mr_intr.proofs.Arguments.{acquire_takes, assume_takes, atomic_load_takes, atomic_store_takes, create_lock_takes, deallocate_takes, exchange_takes, fetch_takes, join_takes}
 use Rattle.mr_intr.proofs.HeapLaws.{allocation_allowed, allocation_planned, allocation_unplanned}
 use Rattle.mr_intr.proofs.LockLaws.{release_read}

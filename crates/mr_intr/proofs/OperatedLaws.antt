@@ -1,28 +1,12 @@
 -- What an intrinsic comes to on arguments that are known, and what the code that asks memory alone leaves.
-use Rattle.std.proofs.Common.{◌≡◌, ℕ, refl, subst, sym, ap, List, [], ◌∷◌, Option, Some, None, Bool, Err}
-use Rattle.mr_base.specs.Stops.{Stop, stop_with}
-use Rattle.mr_ast.specs.declared.program.Intrinsic.{Intrinsic}
-use Rattle.mr_ast.specs.declared.program.Intrinsic.TheVariants as intrinsic
-use Rattle.mr_ast.specs.declared.types.Ty.{Ty}
-use Rattle.mr_base.specs.declared.byte.Kind.TheVariants.{Heap}
-use Rattle.mr_base.specs.declared.byte.Pointer.{Pointer}
+use Rattle.mr_intr.proofs.Common.{◌≡◌, ℕ, refl, subst, sym, ap, List, [], ◌∷◌, Option, Some, None, Bool, Err, Stop, stop_with, Intrinsic, Ty, Heap, Pointer, Val, out-Val, Done, Ask, ◌>>=◌, Outcome, Went, Refused, on, run, Free, memory_answer, World, world_of, Scene, Tables, Notes, OfMemory, Shared, answer, in_shared, Does, IsDone, Prints, begun, notes_in, operated, allocating, assuming, found, number_in, truth_in, Effect, pointer_in}
 use Rattle.mr_base.specs.declared.thread.Event.TheVariants.{Quiet}
-use Rattle.mr_value.specs.declared.val.Val.{Val, out-Val}
-use Rattle.mr_value.specs.declared.val.Val.TheVariants as val
-use Rattle.mr_base.specs.Script.{Done, Ask, ◌>>=◌, Outcome, Went, Refused, on, run}
-use Rattle.mr_eval.specs.MemoryQueries.{Free, MemoryQuery, MemoryReply, memory_answer}
+use Rattle.mr_eval.specs.MemoryQueries.{MemoryQuery, MemoryReply}
 use Rattle.mr_mem.specs.declared.fault.Fault.{Fault}
-use Rattle.mr_mem.specs.declared.fault.Fault.TheVariants as fault
 use Rattle.mr_eval.specs.Environment.{Tells}
-use Rattle.mr_eval.specs.World.{World, world_of}
-use Rattle.mr_eval.specs.declared.scene.Scene.{Scene}
-use Rattle.mr_sync.specs.Tables.{Tables}
-use Rattle.mr_plan.specs.Notes.{Notes}
-use Rattle.mr_plan.specs.Queries.{OfMemory, Shared, answer, in_shared}
-use Rattle.mr_intr.specs.Effects.{Does, IsDone, Prints, begun, notes_in, operated}
-use Rattle.mr_intr.specs.Operations.{allocating, assuming, found, number_in, truth_in}
-use Rattle.mr_intr.specs.declared.effect.Effect.{Effect}
-use Rattle.mr_eval.specs.Operators.{pointer_in}
+use Rattle.mr_ast.specs.declared.program.Intrinsic.TheVariants as intrinsic
+use Rattle.mr_value.specs.declared.val.Val.TheVariants as val
+use Rattle.mr_mem.specs.declared.fault.Fault.TheVariants as fault
 
 -- ---- arguments that are known
 

@@ -1,30 +1,8 @@
 -- Each intrinsic but the start of a thread and the look at a payload, on what fits it, has a rule.
-use Rattle.std.proofs.Common.{◌≡◌, ℕ, refl, subst, sym, List, [], ◌∷◌, Option, None, Some, true}
-use Rattle.std.specs.Prelude.{◌&&◌, nat_le, slice_get}
-use Rattle.std.specs.List.{list_all}
-use Rattle.std.proofs.lemmas.Bool.{and_parts}
-use Rattle.mr_ast.specs.declared.program.Intrinsic.{Intrinsic}
-use Rattle.mr_ast.specs.declared.program.Intrinsic.TheVariants as intrinsic
-use Rattle.mr_ast.specs.declared.types.IntType.TheVariants.{U32, U64}
-use Rattle.mr_ast.specs.declared.types.Ty.{Ty}
-use Rattle.mr_ast.specs.declared.types.Ty.TheVariants as ty
-use Rattle.mr_base.specs.declared.thread.Status.TheVariants.{Enabled}
-use Rattle.mr_layout.specs.Sizes.{size_of}
-use Rattle.mr_value.specs.declared.val.Val.{Val}
-use Rattle.mr_typing.specs.Intrinsics.{fits_intrinsic, gives, gives_nothing, is_atomic}
-use Rattle.mr_typing.specs.Operands.{is_bool, is_int, is_integer, is_raw, is_scalar_number}
+use Rattle.mr_intr.proofs.Common.{◌≡◌, ℕ, refl, subst, sym, List, [], ◌∷◌, Option, None, Some, true, ◌&&◌, nat_le, slice_get, list_all, and_parts, Intrinsic, U32, U64, Ty, Enabled, size_of, Val, fits_intrinsic, gives, gives_nothing, is_atomic, is_bool, is_int, is_integer, is_raw, is_scalar_number, same_type_equal, run, HaveShapes, IsSoundTables, Notes, start_notes, Shared, answer, tables_of, AreHeld, Slot, Leaves, After, IsOperation, Operation, fetch, operation}
 use Rattle.mr_typing.specs.SameTypes.{same_type}
-use Rattle.mr_typing.proofs.SameTypeLaws.{same_type_equal}
-use Rattle.mr_base.specs.Script.{run}
-use Rattle.mr_eval.specs.Shapes.{HaveShapes}
-use Rattle.mr_sync.specs.Sound.{IsSoundTables}
-use Rattle.mr_plan.specs.Notes.{Notes, start_notes}
-use Rattle.mr_plan.specs.Queries.{Shared, answer, tables_of}
-use Rattle.mr_plan.specs.Storage.{AreHeld, Slot}
-use Rattle.mr_plan.proofs.MemoryParts.{Leaves}
-use Rattle.mr_plan.proofs.Outcomes.{After}
-use Rattle.mr_intr.specs.Effects.{IsOperation}
-use Rattle.mr_intr.specs.Operations.{Operation, fetch, operation}
+use Rattle.mr_ast.specs.declared.program.Intrinsic.TheVariants as intrinsic
+use Rattle.mr_ast.specs.declared.types.Ty.TheVariants as ty
 use Rattle.mr_intr.proofs.Arguments.{fetch_fits, fetch_types}
 use Rattle.mr_intr.proofs.Leaving.{OpPlan}
 use Rattle.mr_intr.proofs.LockSafe.{acquire_safe, create_safe, join_safe, release_safe}

@@ -1,64 +1,23 @@
 -- The operations of intrinsics on arguments that fit them have a rule, and what they leave.
-use Rattle.std.proofs.Common.{◌≡◌, ℕ, ◌<◌, ◌*◌, ◌^◌, refl, subst, sym, ap, ◌∙◌, arith, List, [], ◌∷◌, length, Option, Some, None, Bool, true, false}
-use Rattle.std.specs.Prelude.{◌||◌, slice_get, if◌then◌else◌, is_some, nat_lt, ◌-◌, ◌++◌}
-use Rattle.std.specs.List.{list_all}
-use Rattle.std.proofs.lemmas.Bool.{and_parts}
-use Rattle.mr_base.specs.Stops.{Stop}
+use Rattle.mr_intr.proofs.Common.{◌≡◌, ℕ, ◌<◌, ◌*◌, ◌^◌, refl, subst, sym, ap, ◌∙◌, arith, List, [], ◌∷◌, length, Option, Some, None, Bool, true, false, slice_get, if◌then◌else◌, is_some, nat_lt, ◌-◌, ◌++◌, list_all, and_parts, Stop, plainly, int_size, IntType, U64, Ty, out-Ty, AbstractByte, Heap, Pointer, BadAlign, SizeTooLarge, Intrinsic, Enabled, align_of, size_of, lt_test, size_int, ranges_of, Val, out-Val, encoding_of, number_of, has_shape, has_int, has_raw, shape_int, gives, gives_nothing, is_bool, is_int, is_integer, is_raw, is_scalar_number, integer_of, integer_in, same_type_equal, Done, Ask, ◌>>=◌, run, Allocate, Free, MemoryScript, Modify, Write, reading_part, or_ill_formed, pointer_in, Read, HaveShapes, Address, IsSoundTables, creation_fault, picks_fault, CreatesNothing, Notes, start_notes, OfMemory, Print, Shared, StepScript, answer, memory_part, tables_of, AreHeld, Slot, no_faults, picks_length, Leaves, Left, leaves_then, After, FitsPlace, Operation, allocate, allocating, assume, assuming, atomic_load, atomic_store, compare_exchange, deallocate, exchanged, fetch, fetched, found, loaded, modify, number_in, print, truth_in, is_power_of_two, with_pick, bool_text, number_text, spaced, text_layer, text_of, texts_of}
+use Rattle.std.specs.Prelude.{◌||◌}
 use Rattle.mr_eval.specs.Typed.{meaningless}
-use Rattle.mr_base.specs.Stops.{plainly}
-use Rattle.mr_ast.specs.Integers.{int_size}
-use Rattle.mr_ast.specs.declared.types.IntType.{IntType}
-use Rattle.mr_ast.specs.declared.types.IntType.TheVariants.{U64}
-use Rattle.mr_ast.specs.declared.types.Ty.{Ty, out-Ty}
-use Rattle.mr_ast.specs.declared.types.Ty.TheVariants as ty
-use Rattle.mr_base.specs.declared.byte.AbstractByte.{AbstractByte}
-use Rattle.mr_base.specs.declared.byte.Kind.TheVariants.{Heap}
-use Rattle.mr_base.specs.declared.byte.Pointer.{Pointer}
-use Rattle.mr_base.specs.declared.reason.Reason.TheVariants.{BadAlign, SizeTooLarge}
-use Rattle.mr_ast.specs.declared.program.Intrinsic.{Intrinsic}
-use Rattle.mr_base.specs.declared.thread.Status.TheVariants.{Enabled}
-use Rattle.mr_layout.specs.Sizes.{align_of, size_of}
-use Rattle.mr_base.proofs.Comparisons.{lt_test}
-use Rattle.mr_layout.proofs.SizeLaws.{size_int}
-use Rattle.mr_mem.specs.Memory.{ranges_of}
-use Rattle.mr_value.specs.declared.val.Val.{Val, out-Val}
-use Rattle.mr_value.specs.declared.val.Val.TheVariants as val
-use Rattle.mr_value.specs.Encode.{encoding_of}
-use Rattle.mr_value.specs.Numbers.{number_of}
-use Rattle.mr_value.specs.Shape.{has_shape}
 use Rattle.mr_value.proofs.DecodeShape.{number_fits}
-use Rattle.mr_value.proofs.ShapeLaws.{has_int, has_raw, shape_int}
-use Rattle.mr_typing.specs.Intrinsics.{gives, gives_nothing}
-use Rattle.mr_typing.specs.Operands.{is_bool, is_int, is_integer, is_raw, is_scalar_number}
-use Rattle.mr_typing.specs.Types.{integer_of, integer_in}
 use Rattle.mr_typing.proofs.KindLaws.{bool_is, integer_is}
-use Rattle.mr_typing.proofs.SameTypeLaws.{same_type_equal}
-use Rattle.mr_base.specs.Script.{Done, Undefined, Ask, ◌>>=◌, run}
-use Rattle.mr_eval.specs.MemoryQueries.{Allocate, Free, MemoryScript, Modify, Write, reading_part}
-use Rattle.mr_eval.specs.Operators.{or_ill_formed, pointer_in}
-use Rattle.mr_eval.specs.Reads.{Read}
+use Rattle.mr_base.specs.Script.{Undefined}
 use Rattle.mr_eval.specs.Sound.{IsSafe, any_result}
 use Rattle.mr_eval.proofs.OperatorsSafe.{bool_layer, integer_layer, raw_layer}
 use Rattle.mr_eval.proofs.SafeLaws.{safe_found, safe_then}
-use Rattle.mr_eval.specs.Shapes.{HaveShapes}
-use Rattle.mr_sched.specs.declared.schedule.Ask.TheVariants.{Address}
-use Rattle.mr_sync.specs.Sound.{IsSoundTables}
-use Rattle.mr_plan.specs.Legal.{creation_fault, picks_fault}
-use Rattle.mr_plan.specs.Machine.{CreatesNothing}
-use Rattle.mr_plan.specs.Notes.{Notes, start_notes}
-use Rattle.mr_plan.specs.Queries.{OfMemory, Print, Shared, StepScript, answer, memory_part, tables_of}
 use Rattle.mr_plan.specs.Safety.{IsSafeChange}
-use Rattle.mr_plan.specs.Storage.{AreHeld, Slot}
-use Rattle.mr_plan.proofs.LegalLaws.{no_faults, picks_length}
-use Rattle.mr_plan.proofs.MemoryParts.{Leaves, Left, leaves_then, reading_after}
-use Rattle.mr_plan.proofs.Outcomes.{After, after_then}
+use Rattle.mr_plan.proofs.MemoryParts.{reading_after}
+use Rattle.mr_plan.proofs.Outcomes.{after_then}
 use Rattle.mr_plan.proofs.SafetyLaws.{reading_safe}
 use Rattle.mr_plan.proofs.StorageRuns.{Keeps, entails_same, quiet_keeps}
 use Rattle.mr_plan.proofs.QuietRuns.{reading_quiet}
-use Rattle.mr_intr.specs.Effects.{FitsPlace}
-use Rattle.mr_intr.specs.Operations.{Operation, allocate, allocating, assume, assuming, atomic_load, atomic_store, compare_exchange, deallocate, exchanged, fetch, fetched, found, instant, loaded, modify, number_in, print, truth_in, is_power_of_two, with_pick}
-use Rattle.mr_intr.specs.Texts.{bool_text, number_text, spaced, text_layer, text_of, texts_of}
+use Rattle.mr_intr.specs.Operations.{instant}
 use Rattle.mr_value.specs.Discriminants.{number_of_bits}
+use Rattle.mr_ast.specs.declared.types.Ty.TheVariants as ty
+use Rattle.mr_value.specs.declared.val.Val.TheVariants as val
 use Rattle.mr_intr.proofs.Leaving.{AfterOp, OpPlan, memory_op, same_left}
 
 -- ---- types

@@ -1,13 +1,6 @@
 -- The reasons of threads, locks and sizes speak of no bytes.
-use Rattle.std.proofs.Common.{◌≡◌, ℕ, Bool, true, false, Option, None, Some, Result, Ok, Err, refl, subst}
-use Rattle.std.specs.Prelude.{◌==◌, ◌-◌, ◌^◌, if◌then◌else◌, nat_lt, slice_get}
-use Rattle.mr_base.specs.Stops.{speaks}
-use Rattle.mr_base.specs.declared.reason.Reason.{Reason}
-use Rattle.mr_base.specs.declared.reason.Reason.TheVariants.{BadAlign, NotHolder, SizeTooLarge}
-use Rattle.mr_sync.specs.Tables.{Tables, acquired, awaiting, handed, holding, joined, over, released, trying}
+use Rattle.mr_intr.proofs.Common.{◌≡◌, ℕ, Bool, true, false, Option, None, Some, Result, Ok, Err, refl, subst, ◌==◌, ◌-◌, ◌^◌, if◌then◌else◌, nat_lt, slice_get, speaks, Reason, BadAlign, NotHolder, SizeTooLarge, Tables, acquired, awaiting, handed, holding, joined, over, released, trying, allocation_fault, is_power_of_two}
 use Rattle.mr_eval.proofs.OwnReasons.{IsOwnResult}
-use Rattle.mr_intr.specs.Heap.{allocation_fault}
-use Rattle.mr_intr.specs.Operations.{is_power_of_two}
 
 -- ---- tables
 

@@ -1,39 +1,21 @@
 -- The texts of values that are integers and bools.
-use Rattle.std.proofs.Common.{◌≡◌, ℕ, zero, suc, ◌+◌, ◌<◌, ◌≤◌, ◌-◌, refl, sym, ap, ◌∙◌, arith, List, [], ◌∷◌, ◌++◌, length, take, drop, get_or, append_assoc, add-one, Option, None, Some, Bool, true}
+use Rattle.mr_intr.proofs.Common.{◌≡◌, ℕ, ◌+◌, ◌<◌, ◌-◌, refl, sym, ap, ◌∙◌, arith, List, [], ◌∷◌, ◌++◌, length, take, drop, get_or, append_assoc, Option, None, Some, Bool, true, list_all, and_parts, IntType, Ty, out-Ty, Val, out-Val, has_shape, gives_nothing, is_scalar_number, integer_of, Ask, Done, ◌>>=◌, run, HaveShapes, or_ill_formed, reading_part, Scene, Tables, Print, answer, memory_part, Fits, IsDone, begun, notes_in, operated, text_in, texts_in, bool_text, number_text, spaced, spaced_behind, text_layer, text_of, texts_of}
+use Rattle.std.proofs.Common.{zero, suc, ◌≤◌, add-one}
 use Rattle.std.proofs.lemmas.List.{drop_all, take_all}
 use Rattle.std.proofs.Math.Seq.{drop-cons}
-use Rattle.std.specs.List.{list_all}
 use Rattle.std.specs.Option.{unwrap_or}
-use Rattle.std.proofs.lemmas.Bool.{and_parts}
-use Rattle.mr_ast.specs.declared.types.IntType.{IntType}
 use Rattle.mr_ast.specs.declared.types.Num.{Num}
-use Rattle.mr_ast.specs.declared.types.Ty.{Ty, out-Ty}
 use Rattle.mr_ast.specs.declared.types.Ty.TheOpen.{Ty-F}
 use Rattle.mr_ast.specs.declared.types.Variant.{Variant}
-use Rattle.mr_value.specs.declared.val.Val.{Val, out-Val}
 use Rattle.mr_value.specs.declared.val.Val.TheOpen.{Val-F}
 use Rattle.mr_value.specs.Discriminants.{number_of_bits}
-use Rattle.mr_value.specs.Shape.{has_shape}
-use Rattle.mr_typing.specs.Intrinsics.{gives_nothing}
-use Rattle.mr_typing.specs.Operands.{is_scalar_number}
-use Rattle.mr_typing.specs.Types.{integer_of}
-use Rattle.mr_base.specs.Script.{Ask, Done, ◌>>=◌, run}
 use Rattle.mr_eval.proofs.ScalarLaws.{bool_value, int_value, scalar_bool, scalar_int}
 use Rattle.mr_eval.proofs.ShapeOf.{shapes_length}
-use Rattle.mr_eval.specs.Shapes.{HaveShapes}
-use Rattle.mr_eval.specs.Operators.{or_ill_formed}
 use Rattle.mr_eval.specs.Scalars.{scalar_as, scalar_layer}
 use Rattle.mr_eval.specs.declared.scalars.Scalar.{Scalar}
 use Rattle.mr_eval.specs.declared.scalars.Scalar.TheVariants.{Number, Truth}
 use Rattle.mr_ast.specs.declared.program.Intrinsic.TheVariants as intrinsic
-use Rattle.mr_eval.specs.MemoryQueries.{reading_part}
-use Rattle.mr_eval.specs.declared.scene.Scene.{Scene}
-use Rattle.mr_sync.specs.Tables.{Tables}
-use Rattle.mr_plan.specs.Queries.{Print, answer, memory_part}
-use Rattle.mr_intr.specs.Effects.{Fits, IsDone, begun, notes_in, operated}
 use Rattle.mr_intr.proofs.OperatedLaws.{quiet}
-use Rattle.mr_intr.specs.Printed.{text_in, texts_in}
-use Rattle.mr_intr.specs.Texts.{bool_text, number_text, spaced, spaced_behind, text_layer, text_of, texts_of}
 
 -- the text of an integer or a bool
 abbrev pub text_of_scalar : Scalar → List ℕ

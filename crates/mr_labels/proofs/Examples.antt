@@ -1,26 +1,25 @@
 -- Small programs and runs, and what the definitions say of their allocations, computed.
-use Rattle.std.proofs.Common.{◌≡◌, ℕ, List, [], ◌∷◌, Option, Some, None, refl}
+use Rattle.mr_labels.proofs.Common.{◌≡◌, ℕ, List, [], ◌∷◌, Option, Some, None, refl, Allocation, found_at}
 use Rattle.mr_ast.specs.declared.expr.Place.{Place}
 use Rattle.mr_ast.specs.declared.expr.Value.{Value}
 use Rattle.mr_ast.specs.declared.program.Block.{Block}
 use Rattle.mr_ast.specs.declared.program.BlockKind.TheVariants.{Regular}
 use Rattle.mr_ast.specs.declared.program.Function.{Function}
-use Rattle.mr_ast.specs.declared.program.Intrinsic.TheVariants as intrinsic
 use Rattle.mr_ast.specs.declared.program.LocalName.{LocalName}
 use Rattle.mr_ast.specs.declared.program.Program.{Program}
 use Rattle.mr_ast.specs.declared.program.Stmt.{Stmt}
-use Rattle.mr_ast.specs.declared.program.Stmt.TheVariants as stmt
 use Rattle.mr_ast.specs.declared.program.Term.{Term}
-use Rattle.mr_ast.specs.declared.program.Term.TheVariants as term
 use Rattle.mr_base.specs.declared.byte.AllocId.{AllocId}
 use Rattle.mr_sched.specs.declared.schedule.Ask.TheVariants.{Address}
 use Rattle.mr_labels.specs.declared.names.Name.{Name}
-use Rattle.mr_labels.specs.declared.names.Name.TheVariants as name
-use Rattle.mr_labels.specs.declared.rows.Allocation.{Allocation}
 use Rattle.mr_labels.specs.declared.step.Stand.{Stand}
 use Rattle.mr_labels.specs.declared.step.ToldStep.{ToldStep}
 use Rattle.mr_labels.specs.Names.{made_names, start_names}
-use Rattle.mr_labels.specs.Table.{found_at, made_rows, start_rows}
+use Rattle.mr_labels.specs.Table.{made_rows, start_rows}
+use Rattle.mr_ast.specs.declared.program.Intrinsic.TheVariants as intrinsic
+use Rattle.mr_ast.specs.declared.program.Stmt.TheVariants as stmt
+use Rattle.mr_ast.specs.declared.program.Term.TheVariants as term
+use Rattle.mr_labels.specs.declared.names.Name.TheVariants as name
 
 -- ---- a program of two functions: main makes local 1 live and ends its block so; the other has local 1 as its argument
 

@@ -1,14 +1,13 @@
 -- A search among allocations in order finds the one that holds an address.
-use Rattle.std.proofs.Common.{◌≡◌, ℕ, zero, suc, ◌+◌, ◌<◌, ◌≤◌, Bool, true, false, arith, List, [], ◌∷◌, length, get_or, drop}
-use Rattle.std.proofs.Common.{refl, sym, ap, ◌∙◌, subst}
+use Rattle.mr_labels.proofs.Common.{◌≡◌, ℕ, zero, suc, ◌+◌, ◌≤◌, arith, List, [], ◌∷◌, drop, refl, sym, ap, ◌∙◌, subst, nat_le, Option, None, Some, filter, Allocation, first_holding, has_bytes, is_apart, found_at}
+use Rattle.std.proofs.Common.{◌<◌, Bool, true, false, length, get_or}
 use Rattle.std.proofs.lemmas.Bool.Decides.{nat_tests}
 use Rattle.std.proofs.lemmas.List.Sorted.{Contains-permutation, IsNonDecreasingBy-from_all_adjacent, IsPermutation-sym}
-use Rattle.std.specs.Prelude.{◌&&◌, not, nat_le, nat_lt, if◌then◌else◌, cond, Option, None, Some}
-use Rattle.std.specs.List.{Contains, filter}
+use Rattle.std.specs.Prelude.{◌&&◌, not, nat_lt, if◌then◌else◌, cond}
+use Rattle.std.specs.List.{Contains}
 use Rattle.std.specs.List.Sorted.{IsNonDecreasingBy, IsPermutation}
-use Rattle.mr_labels.specs.declared.rows.Allocation.{Allocation}
-use Rattle.mr_labels.specs.Index.{IsIndex, first_holding, has_bytes, is_apart, rows_past}
-use Rattle.mr_labels.specs.Table.{found_at, holds}
+use Rattle.mr_labels.specs.Index.{IsIndex, rows_past}
+use Rattle.mr_labels.specs.Table.{holds}
 
 -- ---- numbers
 

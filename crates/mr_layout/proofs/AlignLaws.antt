@@ -1,14 +1,7 @@
 -- The equations of `align_of`.
-use Rattle.std.proofs.Common.{◌≡◌, ℕ, Bool, List, sym, ap, ◌∙◌}
-use Rattle.mr_ast.specs.declared.types.IntType.{IntType}
-use Rattle.mr_ast.specs.declared.types.Tree.{Tree}
-use Rattle.mr_ast.specs.declared.types.Ty.{Ty}
+use Rattle.mr_layout.proofs.Common.{◌≡◌, ℕ, Bool, List, sym, ap, ◌∙◌, IntType, Tree, Ty, Ty-F, fold-roll-Ty, Variant, variant_step, align_of, int_size}
+use Rattle.mr_layout.specs.Sizes.{align_step}
 use Rattle.mr_ast.specs.declared.types.Ty.TheVariants as ty
-use Rattle.mr_ast.specs.declared.types.Ty.TheOpen.{Ty-F}
-use Rattle.mr_ast.specs.declared.types.Ty.TheFolds.{fold-roll-Ty}
-use Rattle.mr_ast.specs.declared.types.Variant.{Variant}
-use Rattle.mr_layout.specs.Sizes.{align_step, variant_step, align_of}
-use Rattle.mr_ast.specs.Integers.{int_size}
 
 pub align_int : (i : IntType) → align_of (ty.Int i) ≡ int_size i
 align_int i = ap align_of (sym (ty.rolls-Int i)) ∙ fold-roll-Ty ℕ ℕ align_step variant_step (Ty-F.Int i)

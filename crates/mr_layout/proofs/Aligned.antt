@@ -1,16 +1,8 @@
 -- The alignment of a type without a broken rule is a power of two of at most 4096, and its size is a multiple of it.
-use Rattle.std.proofs.Common.{◌≡◌, ℕ, ◌*◌, ◌%◌, true, refl, sym, ap, ◌∙◌, arith}
+use Rattle.mr_layout.proofs.Common.{◌≡◌, ℕ, ◌*◌, ◌%◌, true, refl, sym, ap, ◌∙◌, arith, IntType, U8, U16, U32, U64, U128, I8, I16, I32, I64, I128, Ty, TypeCases, type_induction, size_of, align_of, int_size, is_align, TypeOk}
 use Rattle.std.proofs.lemmas.Nat.{mul-mod_second}
 use Rattle.std.specs.Int.Count.{ones}
-use Rattle.mr_ast.specs.declared.types.IntType.{IntType}
-use Rattle.mr_ast.specs.declared.types.IntType.TheVariants.{U8, U16, U32, U64, U128, I8, I16, I32, I64, I128}
-use Rattle.mr_ast.specs.declared.types.Ty.{Ty}
 use Rattle.mr_ast.specs.declared.types.Ty.TheVariants as ty
-use Rattle.mr_ast.proofs.TypeInduction.{TypeCases, type_induction}
-use Rattle.mr_layout.specs.Sizes.{size_of, align_of}
-use Rattle.mr_ast.specs.Integers.{int_size}
-use Rattle.mr_layout.specs.Rules.{is_align}
-use Rattle.mr_layout.specs.TypeOk.{TypeOk}
 use Rattle.mr_layout.proofs.SizeLaws.{size_int, size_bool, size_raw, size_fn_ptr, size_ref, size_tuple, size_array, size_union, size_enum}
 use Rattle.mr_layout.proofs.AlignLaws.{align_int, align_bool, align_raw, align_fn_ptr, align_ref, align_tuple, align_array, align_union, align_enum}
 use Rattle.mr_layout.proofs.WellFormed.{tuple_ok, array_ok, union_ok, enum_ok}

@@ -1,24 +1,10 @@
 -- What is asked of each part of a list and of each two of them, apart; and the two as pairs of numbers.
-use Rattle.std.proofs.Common.{◌≡◌, ℕ, ◌+◌, ◌<◌, Bool, true, false, List, [], ◌∷◌, ◌++◌, drop, length, get_or, take, map, refl, sym, ap, ◌∙◌, arith, ◌||◌}
-use Rattle.std.specs.Prelude.{not, ◌&&◌, ◌==◌, nat_le, nat_lt, if◌then◌else◌}
-use Rattle.std.specs.List.{list_any}
-use Rattle.std.proofs.lemmas.Bool.{or_parts}
-use Rattle.std.proofs.lemmas.Bool.Decides.{nat_tests}
-use Rattle.std.proofs.lemmas.List.{map-append, take_more, drop_more}
+use Rattle.mr_layout.proofs.Common.{◌≡◌, ℕ, ◌+◌, ◌<◌, Bool, true, false, List, [], ◌∷◌, ◌++◌, drop, length, get_or, take, map, refl, sym, ap, ◌∙◌, arith, ◌||◌, not, ◌&&◌, ◌==◌, nat_le, nat_lt, if◌then◌else◌, list_any, or_parts, nat_tests, drop_more, IntType, Num, Tag, Tree, Ty, Variant, int_size, is_fitting, not_empty, variant_key, case_key, tag_range, field_range, number_twice, case_twice, tags_meeting, each_variant, are_tags_fitting, is_some_tag_used, are_tags_alone, is_variant_tag_used, each_case, same_num, is_number_of, are_variants, meets_tag, is_some_used, are_tags, are_all_tags, is_case, is_tree, are_tree_cases, is_past, meets_any, is_overlapping, meets_chunk, is_chunk_overlapping, size_of, align_of}
+use Rattle.std.proofs.lemmas.List.{map-append, take_more}
 use Rattle.std.proofs.lemmas.List.Sorted.{list_any-IsPermutation}
-use Rattle.mr_ast.specs.declared.types.IntType.{IntType}
-use Rattle.mr_ast.specs.declared.types.Num.{Num}
-use Rattle.mr_ast.specs.declared.types.Tag.{Tag}
-use Rattle.mr_ast.specs.declared.types.Tree.{Tree}
-use Rattle.mr_ast.specs.declared.types.Ty.{Ty}
-use Rattle.mr_ast.specs.declared.types.Variant.{Variant}
-use Rattle.mr_ast.specs.Integers.{int_size, is_fitting}
-use Rattle.mr_base.specs.Pairs.{some_pair, same_pair, are_meeting, not_empty}
+use Rattle.mr_base.specs.Pairs.{some_pair, same_pair, are_meeting}
 use Rattle.mr_base.proofs.Twins.{some_pair_not_empty}
-use Rattle.mr_layout.specs.Alike.{AreKeys, number_key, variant_key, case_key, tag_range, field_range, number_twice, case_twice, tags_meeting, each_variant, are_tags_fitting, is_some_tag_used, are_tags_alone, is_variant_tag_used, each_case}
-use Rattle.mr_layout.specs.EnumRules.{same_num, is_number_of, are_variants, meets_tag, is_some_used, are_tags, are_all_tags, is_case, is_tree, are_tree_cases}
-use Rattle.mr_layout.specs.Rules.{is_past, meets_any, is_overlapping, meets_chunk, is_chunk_overlapping}
-use Rattle.mr_layout.specs.Sizes.{size_of, align_of}
+use Rattle.mr_layout.specs.Alike.{AreKeys, number_key}
 
 past_three : (a b c d t e : Bool) → (a && (b && (c && (not d && (not t && e))))) ≡ (not (d || t) && (a && (b && (c && e))))
 past_three false b c true t e = refl

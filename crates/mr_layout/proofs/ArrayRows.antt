@@ -1,15 +1,7 @@
 -- The used bytes of an array of arrays are those of one array of the inner ones' elements.
-use Rattle.std.proofs.Common.{◌≡◌, ℕ, ◌*◌, ◌%◌, ◌<◌, ◌≤◌, ◌⊎◌, ⊎_elim, inl, inr, sym, ap, subst, ◌∙◌, arith}
-use Rattle.std.specs.Prelude.{nat_lt, ◌&&◌}
-use Rattle.std.proofs.lemmas.Bool.{cases_lt}
-use Rattle.std.proofs.lemmas.Nat.{mod_below}
-use Rattle.std.proofs.Math.Nat.{dvd-mul_left, mod-mod_of_dvd, mul_assoc}
-use Rattle.mr_ast.specs.declared.types.Ty.{Ty}
+use Rattle.mr_layout.proofs.Common.{◌≡◌, ℕ, ◌*◌, ◌%◌, ◌<◌, ◌≤◌, ◌⊎◌, ⊎_elim, inl, inr, sym, ap, subst, ◌∙◌, arith, nat_lt, ◌&&◌, cases_lt, mod_below, mod-mod_of_dvd, Ty, lt_test, not_lt_test, size_of, is_used_row, Use, is_used}
+use Rattle.std.proofs.Math.Nat.{dvd-mul_left, mul_assoc}
 use Rattle.mr_ast.specs.declared.types.Ty.TheVariants as ty
-use Rattle.mr_base.proofs.Comparisons.{lt_test, not_lt_test}
-use Rattle.mr_layout.specs.Sizes.{size_of}
-use Rattle.mr_layout.specs.Tables.{is_used_row}
-use Rattle.mr_layout.specs.Used.{Use, is_used}
 use Rattle.mr_layout.proofs.SizeLaws.{size_array}
 use Rattle.mr_layout.proofs.UsedLaws.{used_array}
 

@@ -1,8 +1,5 @@
 -- Whether a test holds of a number below an end.
-use Rattle.std.proofs.Common.{◌≡◌, ℕ, zero, suc, ◌<◌, ◌⊎◌, ⊎_elim, Bool, true, false, refl, sym, subst, ap, ◌∙◌, arith}
-use Rattle.std.specs.Prelude.{◌||◌}
-use Rattle.std.proofs.lemmas.Bool.{or_left, or_right, or_cases, or_from}
-use Rattle.mr_layout.specs.Met.{is_some_below}
+use Rattle.mr_layout.proofs.Common.{◌≡◌, ℕ, zero, suc, ◌<◌, ◌⊎◌, ⊎_elim, Bool, true, false, refl, sym, subst, ap, ◌∙◌, arith, ◌||◌, or_left, or_right, or_cases, or_from, is_some_below}
 
 at_or_below : (k n : ℕ) → k < suc n → (k < n) ⊎ (k ≡ n)
 at_or_below k n h = grind arith

@@ -1,25 +1,17 @@
 -- Types that are kept with their layouts, each once.
-use Rattle.std.proofs.Common.{◌≡◌, ℕ, ◌+◌, ◌<◌, ◌≤◌, ⊎_elim, Bool, true, false, cond, List, [], ◌∷◌, ◌++◌, map, length, get_or, Option, Some, None, is_some, inr, refl, sym, ap, subst, ◌∙◌, true≢false, Bor, take, arith}
-use Rattle.std.specs.Prelude.{All, Contains, IfNone, IfSome, position, slice_get, ◌≢◌}
+use Rattle.mr_layout.proofs.Common.{◌≡◌, ℕ, ◌+◌, ◌<◌, ◌≤◌, ⊎_elim, Bool, true, false, List, [], ◌∷◌, ◌++◌, map, length, get_or, Option, Some, None, is_some, inr, refl, sym, ap, subst, ◌∙◌, take, arith, All, Contains, IfSome, take_all, IntType, Ty, Ty-F, fold-roll-Ty, int_size, align_of, inhabited_step, is_inhabited, variant_step, layout_of, held_types, AreDefined, TypeOk, AreTypesOf, Adds}
+use Rattle.std.proofs.Common.{cond, true≢false, Bor}
+use Rattle.std.specs.Prelude.{IfNone, position, slice_get, ◌≢◌}
 use Rattle.std.specs.Map.{keys_of, lookup, values_of}
 use Rattle.std.specs.Option.{option_map}
-use Rattle.std.proofs.lemmas.List.{length-map, get_or-map, get_or_default, map_push, map_more, take_all}
+use Rattle.std.proofs.lemmas.List.{length-map, get_or-map, get_or_default, map_push, map_more}
 use Rattle.std.proofs.lemmas.List.Elements.{All-from_recursion, All-head, All-push, All-tail, All-weaker, Contains-append_left, Contains-append_right, Contains-get_or, Contains-push}
 use Rattle.std.proofs.lemmas.List.Quantifiers.{all_pairs_push, position-Some}
 use Rattle.std.proofs.lemmas.Map.{none_passes_from_lookup}
 use Rattle.std.proofs.lemmas.Option.{get_or_from_slice_get, none-some, same_Some, slice_get-get_or, slice_get-map, slice_get_within}
-use Rattle.mr_ast.specs.declared.types.IntType.{IntType}
-use Rattle.mr_ast.specs.declared.types.Ty.{Ty}
-use Rattle.mr_ast.specs.declared.types.Ty.TheVariants as ty
-use Rattle.mr_ast.specs.declared.types.Ty.TheOpen.{Ty-F}
-use Rattle.mr_ast.specs.declared.types.Ty.TheFolds.{fold-roll-Ty}
 use Rattle.mr_ast.specs.Equal.{equal_types, equal_types_decides}
-use Rattle.mr_ast.specs.Integers.{int_size}
 use Rattle.mr_layout.specs.declared.cache.Layout.{Layout}
-use Rattle.mr_layout.specs.Sizes.{align_of, inhabited_step, is_inhabited, variant_step}
-use Rattle.mr_layout.specs.Layouts.{layout_of, held_types, AreDefined}
-use Rattle.mr_layout.specs.TypeOk.{TypeOk}
-use Rattle.mr_layout.specs.Cached.{AreTypesOf, Adds}
+use Rattle.mr_ast.specs.declared.types.Ty.TheVariants as ty
 use Rattle.mr_layout.proofs.AlignLaws.{align_int}
 use Rattle.mr_layout.proofs.SizeLaws.{size_int}
 

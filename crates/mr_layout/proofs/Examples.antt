@@ -1,16 +1,8 @@
 -- Types with their sizes and alignments, whether they have a value, their used bytes, and which types are written with them, computed.
-use Rattle.std.proofs.Common.{◌≡◌, ℕ, ◌*◌, Bool, true, false, [], ◌∷◌, sym, ap, ◌∙◌}
-use Rattle.std.specs.Prelude.{not}
-use Rattle.mr_ast.specs.declared.types.IntType.TheVariants.{U8, U16, U32, I16, I128}
-use Rattle.mr_ast.specs.declared.types.Ty.{Ty}
+use Rattle.mr_layout.proofs.Common.{◌≡◌, ℕ, ◌*◌, Bool, true, false, [], ◌∷◌, sym, ap, ◌∙◌, not, U8, U16, U32, I16, I128, Ty, Ty-F, fold-roll-Ty, is_used, types_of, types_of_place, types_of_value, size_of, align_of, is_inhabited, inhabited_step, variant_step}
 use Rattle.mr_ast.specs.declared.types.Ty.TheVariants as ty
-use Rattle.mr_ast.specs.declared.types.Ty.TheOpen.{Ty-F}
-use Rattle.mr_ast.specs.declared.types.Ty.TheFolds.{fold-roll-Ty}
 use Rattle.mr_ast.specs.declared.expr.Place.TheVariants as place
 use Rattle.mr_ast.specs.declared.expr.Value.TheVariants as value
-use Rattle.mr_layout.specs.Used.{is_used}
-use Rattle.mr_layout.specs.Written.{types_of, types_of_place, types_of_value}
-use Rattle.mr_layout.specs.Sizes.{size_of, align_of, is_inhabited, inhabited_step, variant_step}
 use Rattle.mr_layout.proofs.SizeLaws.{size_int, size_tuple, size_array}
 use Rattle.mr_layout.proofs.AlignLaws.{align_int, align_tuple, align_array}
 use Rattle.mr_layout.proofs.UsedLaws.{used_laws}

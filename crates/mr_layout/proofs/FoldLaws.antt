@@ -1,15 +1,7 @@
 -- Which marks of a table a part meets: by a part of the table, after a join of two tables, and of elements in a row.
-use Rattle.std.proofs.Common.{◌≡◌, ℕ, suc, ◌+◌, ◌-◌, ◌*◌, ◌%◌, ◌^◌, ◌<◌, ◌≤◌, ◌⊎◌, inl, inr, Bool, true, false, List, ◌++◌, refl, sym, ap, ◌∙◌, length, get_or, take, drop, max, arith}
-use Rattle.std.specs.Prelude.{nat_lt, nat_le, ◌&&◌, ◌||◌, slice_index, Some, None, if◌then◌else◌}
-use Rattle.std.proofs.Math.Nat.{mod-eq_of_lt, add-mul-mod_self_right}
-use Rattle.std.proofs.lemmas.Bool.{and_parts, and_from, cases_lt, both_ways}
-use Rattle.std.proofs.lemmas.Bool.Decides.{nat_tests}
-use Rattle.std.proofs.lemmas.List.{length-take, length-drop, get_or-take, get_or-drop, get_or_past, take_all, drop_all, append-nil}
-use Rattle.mr_layout.specs.Used.{Use, is_in, is_in_part}
-use Rattle.mr_layout.specs.Marks.{every, is_mark, is_marked, is_run_marked}
-use Rattle.mr_layout.specs.Met.{is_some_below}
+use Rattle.mr_layout.proofs.Common.{◌≡◌, ℕ, suc, ◌+◌, ◌-◌, ◌*◌, ◌%◌, ◌^◌, ◌<◌, ◌≤◌, ◌⊎◌, inl, inr, Bool, true, false, List, ◌++◌, refl, sym, ap, ◌∙◌, length, get_or, take, drop, max, arith, nat_lt, nat_le, ◌&&◌, ◌||◌, slice_index, Some, None, if◌then◌else◌, mod-eq_of_lt, add-mul-mod_self_right, and_parts, and_from, cases_lt, both_ways, nat_tests, length-take, length-drop, get_or-take, get_or-drop, get_or_past, take_all, drop_all, Use, is_in, is_in_part, every, is_mark, is_marked, is_run_marked, is_some_below, le_from, lt_from, lt_test, le_test}
+use Rattle.std.proofs.lemmas.List.{append-nil}
 use Rattle.mr_layout.proofs.Below.{some_at, none_below, same_some, same_tests, some_either}
-use Rattle.mr_base.proofs.Comparisons.{le_from, lt_from, lt_test, le_test}
 
 pub mark_take : (m k : ℕ) (table : List ℕ) → k < m → is_mark (take m table) k ≡ is_mark table k
 mark_take m k table h = ap (nat_lt 0) (get_or-take m table k 0 h)

@@ -1,17 +1,8 @@
 -- The ranges between chunks: a byte is in one of them where it is in no chunk, so that a field is covered where it meets none.
-use Rattle.std.proofs.Common.{◌≡◌, ℕ, zero, suc, ◌+◌, ◌-◌, ◌^◌, ◌<◌, ◌≤◌, Bool, true, false, List, [], ◌∷◌, refl, sym, ap, subst, ◌∙◌, arith}
-use Rattle.std.specs.Prelude.{nat_lt, nat_le, not, ◌&&◌, ◌||◌, if◌then◌else◌}
-use Rattle.std.proofs.lemmas.Bool.{and_parts, and_from, and_left, or_from, or_parts}
-use Rattle.std.proofs.lemmas.Bool.Decides.{nat_tests}
-use Rattle.mr_ast.specs.declared.types.Ty.{Ty}
-use Rattle.mr_base.specs.Pairs.{not_empty}
-use Rattle.mr_layout.specs.Sizes.{size_of}
-use Rattle.mr_layout.specs.Used.{is_in, is_in_part, is_in_chunk, is_used}
-use Rattle.mr_layout.specs.Rules.{is_past, is_chunk_past, is_rising, is_rising_after, is_covered, are_covered}
-use Rattle.mr_layout.specs.Met.{is_some_below, is_met, is_in_order, is_in_order_after, end_of, gaps_from, are_outside}
+use Rattle.mr_layout.proofs.Common.{◌≡◌, ℕ, zero, suc, ◌+◌, ◌-◌, ◌^◌, ◌<◌, ◌≤◌, Bool, true, false, List, [], ◌∷◌, refl, sym, ap, subst, ◌∙◌, arith, nat_lt, nat_le, not, ◌&&◌, ◌||◌, if◌then◌else◌, and_parts, and_from, and_left, or_from, or_parts, nat_tests, Ty, not_empty, size_of, is_in, is_in_part, is_in_chunk, is_used, is_past, is_chunk_past, is_rising, is_rising_after, is_covered, are_covered, is_some_below, is_met, is_in_order, is_in_order_after, gaps_from, are_outside, le_from, lt_from, le_test}
+use Rattle.mr_layout.specs.Met.{end_of}
 use Rattle.mr_layout.proofs.Below.{none_below, same_tests}
 use Rattle.mr_layout.proofs.RunLaws.{earlier}
-use Rattle.mr_base.proofs.Comparisons.{le_from, lt_from, le_test}
 
 -- chunks that rise after a start have no byte up to it
 before_rising : (start at : ℕ) (chunks : List (ℕ × ℕ)) → at ≤ start → is_rising_after start chunks ≡ true → is_in_chunk chunks at ≡ false

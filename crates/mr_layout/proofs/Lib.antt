@@ -6,6 +6,7 @@ pub mod Below
 pub mod Bounds
 pub mod BrokenLaws
 pub mod CacheLaws
+mod Common
 pub mod Examples
 pub mod FoldLaws
 pub mod GapLaws

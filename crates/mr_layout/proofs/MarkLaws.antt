@@ -1,24 +1,7 @@
 -- Which marks a type meets, by the parts of the type; and a union's table, in which the bytes in no chunk are marked.
-use Rattle.std.proofs.Common.{◌≡◌, ℕ, zero, suc, ◌+◌, ◌*◌, ◌%◌, ◌<◌, ◌≤◌, Bool, true, false, List, [], ◌∷◌, refl, sym, ap, ◌∙◌, length, get_or, take, drop, replicate, arith}
-use Rattle.std.specs.Prelude.{nat_lt, nat_le, not, ◌&&◌, ◌||◌, slice_index}
-use Rattle.std.proofs.lemmas.Bool.{and_parts, and_from, or_parts, ltb-false, both_ways}
-use Rattle.std.proofs.lemmas.Bool.Decides.{nat_tests}
-use Rattle.std.proofs.lemmas.List.{length-take, length-drop, get_or-take, get_or-drop, get_or-replicate, drop_more, drop_all}
-use Rattle.mr_ast.specs.declared.types.IntType.{IntType}
-use Rattle.mr_ast.specs.declared.types.Tag.{Tag}
-use Rattle.mr_ast.specs.declared.types.Tree.{Tree}
-use Rattle.mr_ast.specs.declared.types.Ty.{Ty}
+use Rattle.mr_layout.proofs.Common.{◌≡◌, ℕ, zero, suc, ◌+◌, ◌*◌, ◌%◌, ◌<◌, ◌≤◌, Bool, true, false, List, [], ◌∷◌, refl, sym, ap, ◌∙◌, length, get_or, take, drop, replicate, arith, nat_lt, nat_le, not, ◌&&◌, ◌||◌, slice_index, and_parts, and_from, or_parts, both_ways, nat_tests, length-take, length-drop, get_or-take, get_or-drop, get_or-replicate, drop_more, drop_all, IntType, Tag, Tree, Ty, Variant, int_size, not_empty, le_test, lt_test, size_of, is_past, is_chunk_past, is_rising, is_covered, are_covered, is_used_row, Use, is_in, is_in_part, is_in_chunk, is_in_tag, is_used, is_used_field, is_used_in, is_used_variant, is_some_below, is_run_met, gaps_from, is_mark, is_marked, is_run_marked, is_field_marked, is_chunk_marked, is_tag_marked, is_variant_marked, are_unmarked}
+use Rattle.std.proofs.lemmas.Bool.{ltb-false}
 use Rattle.mr_ast.specs.declared.types.Ty.TheVariants as ty
-use Rattle.mr_ast.specs.declared.types.Variant.{Variant}
-use Rattle.mr_ast.specs.Integers.{int_size}
-use Rattle.mr_base.specs.Pairs.{not_empty}
-use Rattle.mr_base.proofs.Comparisons.{le_test, lt_test}
-use Rattle.mr_layout.specs.Sizes.{size_of}
-use Rattle.mr_layout.specs.Rules.{is_past, is_chunk_past, is_rising, is_covered, are_covered}
-use Rattle.mr_layout.specs.Tables.{is_used_row}
-use Rattle.mr_layout.specs.Used.{Use, is_in, is_in_part, is_in_chunk, is_in_tag, is_used, is_used_field, is_used_in, is_used_variant}
-use Rattle.mr_layout.specs.Met.{is_some_below, is_run_met, gaps_from}
-use Rattle.mr_layout.specs.Marks.{is_mark, is_marked, is_run_marked, is_field_marked, is_chunk_marked, is_tag_marked, is_variant_marked, are_unmarked}
 use Rattle.mr_layout.proofs.ArrayRows.{used_rows}
 use Rattle.mr_layout.proofs.Below.{some_at, none_below, same_tests}
 use Rattle.mr_layout.proofs.GapLaws.{in_gaps}

@@ -1,17 +1,6 @@
 -- What ranges meet of a type, by the parts of the type.
-use Rattle.std.proofs.Common.{◌≡◌, ℕ, ◌+◌, ◌-◌, ◌≤◌, Bool, true, false, List, [], ◌∷◌, refl, sym, ap, ◌∙◌, arith}
-use Rattle.std.specs.Prelude.{nat_lt, nat_le, ◌&&◌, ◌||◌}
-use Rattle.std.proofs.lemmas.Bool.{and_left}
-use Rattle.std.proofs.lemmas.Bool.Decides.{nat_tests}
-use Rattle.mr_ast.specs.declared.types.IntType.{IntType}
-use Rattle.mr_ast.specs.declared.types.Tag.{Tag}
-use Rattle.mr_ast.specs.declared.types.Tree.{Tree}
-use Rattle.mr_ast.specs.declared.types.Ty.{Ty}
+use Rattle.mr_layout.proofs.Common.{◌≡◌, ℕ, ◌+◌, ◌-◌, ◌≤◌, Bool, true, false, List, [], ◌∷◌, refl, sym, ap, ◌∙◌, arith, nat_lt, nat_le, ◌&&◌, ◌||◌, and_left, nat_tests, IntType, Tag, Tree, Ty, Variant, int_size, Use, is_in, is_in_part, is_in_chunk, is_in_tag, is_used, is_used_field, is_used_in, is_used_variant, is_met, is_run_met, is_field_met, is_chunk_met, is_tag_met, is_variant_met}
 use Rattle.mr_ast.specs.declared.types.Ty.TheVariants as ty
-use Rattle.mr_ast.specs.declared.types.Variant.{Variant}
-use Rattle.mr_ast.specs.Integers.{int_size}
-use Rattle.mr_layout.specs.Used.{Use, is_in, is_in_part, is_in_chunk, is_in_tag, is_used, is_used_field, is_used_in, is_used_variant}
-use Rattle.mr_layout.specs.Met.{is_met, is_run_met, is_field_met, is_chunk_met, is_tag_met, is_variant_met}
 use Rattle.mr_layout.proofs.Below.{none_below, same_tests, some_either}
 use Rattle.mr_layout.proofs.UsedLaws.{used_int, used_bool, used_raw, used_fn_ptr, used_ref, used_tuple, used_union, used_enum, used_variant_is}
 

@@ -1,9 +1,5 @@
 -- The parts of a type without a broken rule, as facts.
-use Rattle.std.specs.Prelude.{◌≡◌, ℕ, ◌+◌, ◌≤◌, List, [], ◌∷◌}
-use Rattle.mr_ast.specs.declared.types.Ty.{Ty}
-use Rattle.mr_ast.specs.declared.types.Variant.{Variant}
-use Rattle.mr_layout.specs.Sizes.{size_of}
-use Rattle.mr_layout.specs.TypeOk.{TypeOk}
+use Rattle.mr_layout.proofs.Common.{◌≡◌, ℕ, ◌+◌, ◌≤◌, List, [], ◌∷◌, Ty, Variant, size_of, TypeOk}
 
 -- a part breaks no rule and lies inside the size
 pub record PartOk (size at : ℕ) (t : Ty) : Type 0 where

@@ -1,20 +1,11 @@
 -- What ranges meet of elements in a row is what they meet of one element.
-use Rattle.std.proofs.Common.{◌≡◌, ℕ, suc, ◌+◌, ◌-◌, ◌*◌, ◌%◌, ◌/◌, ◌^◌, ◌<◌, ◌≤◌, ◌⊎◌, inl, inr, Bool, true, false, List, [], ◌∷◌, refl, sym, ap, ◌∙◌, length, get_or, drop, arith}
-use Rattle.std.specs.Prelude.{nat_lt, nat_le, ◌&&◌, ◌||◌, min, if◌then◌else◌}
-use Rattle.std.proofs.lemmas.Bool.{and_parts, and_from, and_left, or_from}
-use Rattle.std.proofs.Math.Nat.{mod-add-div', mod-eq_of_lt, suc-mul}
-use Rattle.std.proofs.lemmas.Nat.{mod-mul-add}
-use Rattle.std.proofs.lemmas.Bool.{or_cases, or_left, or_right}
-use Rattle.std.proofs.lemmas.List.{drop_more}
-use Rattle.mr_ast.specs.declared.types.Ty.{Ty}
+use Rattle.mr_layout.proofs.Common.{◌≡◌, ℕ, suc, ◌+◌, ◌-◌, ◌*◌, ◌%◌, ◌/◌, ◌^◌, ◌<◌, ◌≤◌, ◌⊎◌, inl, inr, Bool, true, false, List, [], ◌∷◌, refl, sym, ap, ◌∙◌, length, get_or, drop, arith, nat_lt, nat_le, ◌&&◌, ◌||◌, min, if◌then◌else◌, and_parts, and_from, and_left, or_from, mod-eq_of_lt, mod-mul-add, or_cases, or_left, or_right, drop_more, Ty, size_of, Use, is_in, is_in_part, is_in_chunk, is_used, is_some_below, is_met, are_rows_met, ranges_past, is_in_order, is_in_order_after, le_from, lt_from, lt_test, le_test}
+use Rattle.std.proofs.Math.Nat.{mod-add-div', suc-mul}
+use Rattle.mr_layout.specs.Met.{is_row_met}
 use Rattle.mr_ast.specs.declared.types.Ty.TheVariants as ty
-use Rattle.mr_layout.specs.Sizes.{size_of}
-use Rattle.mr_layout.specs.Used.{Use, is_in, is_in_part, is_in_chunk, is_used}
-use Rattle.mr_layout.specs.Met.{is_some_below, is_met, is_row_met, are_rows_met, ranges_past, is_in_order, is_in_order_after}
 use Rattle.mr_layout.proofs.RunLaws.{First, first_of_order, earlier}
 use Rattle.mr_layout.proofs.UsedLaws.{used_array}
 use Rattle.mr_layout.proofs.Below.{some_at, none_below, same_some, same_tests, some_either}
-use Rattle.mr_base.proofs.Comparisons.{le_from, lt_from, lt_test, le_test}
 
 in_of : (start len at : ℕ) → is_in start len at ≡ true → (start ≤ at) × (at < start + len)
 in_of start len at h = let p = and_parts (nat_le start at) (nat_lt at (start + len)) h in (le_from _ _ p.0, lt_from _ _ p.1)

@@ -1,14 +1,8 @@
 -- Ranges in order: which of them come behind a byte, and what a run of bytes meets of them.
-use Rattle.std.proofs.Common.{◌≡◌, ℕ, zero, suc, ◌+◌, ◌^◌, ◌<◌, ◌≤◌, ◌⊎◌, inl, inr, Bool, true, false, List, [], ◌∷◌, length, get_or, drop, refl, sym, ap, ◌∙◌, arith, subst}
-use Rattle.std.specs.Prelude.{nat_lt, nat_le, ◌&&◌, ◌||◌, min, if◌then◌else◌}
+use Rattle.mr_layout.proofs.Common.{◌≡◌, ℕ, zero, suc, ◌+◌, ◌^◌, ◌<◌, ◌≤◌, ◌⊎◌, inl, inr, Bool, true, false, List, [], ◌∷◌, length, get_or, drop, refl, sym, ap, ◌∙◌, arith, subst, nat_lt, nat_le, ◌&&◌, ◌||◌, min, if◌then◌else◌, and_parts, and_from, and_left, or_from, or_left, both_ways, cases_lt, nat_tests, is_in, is_in_chunk, is_some_below, is_run_met, ranges_past, is_in_order, is_in_order_after, le_from, lt_from, lt_test, le_test}
 use Rattle.std.specs.List.Sorted.{IsNonDecreasingBy}
-use Rattle.std.proofs.lemmas.Bool.{and_parts, and_from, and_left, or_from, or_left, both_ways, cases_lt}
 use Rattle.std.proofs.lemmas.List.Sorted.{IsNonDecreasingBy-from_all_adjacent}
-use Rattle.std.proofs.lemmas.Bool.Decides.{nat_tests}
-use Rattle.mr_layout.specs.Used.{is_in, is_in_chunk}
-use Rattle.mr_layout.specs.Met.{is_some_below, is_run_met, ranges_past, is_in_order, is_in_order_after}
 use Rattle.mr_layout.proofs.Below.{some_at, none_below, same_tests}
-use Rattle.mr_base.proofs.Comparisons.{le_from, lt_from, lt_test, le_test}
 
 -- the first range of some in order, and the others
 pub record First (low : ℕ) (r : ℕ × ℕ) (ranges : List (ℕ × ℕ)) : Type 0 where

@@ -1,25 +1,9 @@
 -- What the steps of a walk over the parts of a type mark in a table, taken together.
-use Rattle.std.proofs.Common.{◌≡◌, ℕ, zero, suc, ◌+◌, ◌-◌, ◌*◌, ◌/◌, ◌%◌, ◌^◌, ◌<◌, ◌≤◌, ◌⊎◌, inl, inr, Bool, true, false, List, [], ◌∷◌, Option, Some, None, ◌++◌, refl, sym, subst, ap, ◌∙◌, length, get_or, take, drop, max, min, replicate, arith}
-use Rattle.std.specs.Prelude.{nat_lt, nat_le, ◌&&◌, ◌||◌, slice_index, if◌then◌else◌, IfSome}
-use Rattle.std.proofs.Math.Nat.{mod-eq_of_lt, add-mul-mod_self_right, mod-mod_of_dvd, dvd_of_mod-eq-zero}
-use Rattle.std.proofs.lemmas.Nat.{div-add-mod', mod-mul-add, mod_below, mul-le}
-use Rattle.std.proofs.lemmas.Bool.{and_parts, and_from, and_right, or_left, or_right, cases_lt}
-use Rattle.std.proofs.lemmas.Bool.Decides.{nat_tests}
-use Rattle.std.proofs.lemmas.List.{length-take, length-append, length-replicate, get_or_past, get_or-replicate, get_or_append_left, get_or-append_right, drop_more, drop_all}
-use Rattle.mr_ast.specs.declared.types.Tag.{Tag}
-use Rattle.mr_ast.specs.declared.types.Ty.{Ty}
-use Rattle.mr_ast.specs.declared.types.Variant.{Variant}
-use Rattle.mr_ast.specs.Integers.{int_size}
-use Rattle.mr_base.proofs.Comparisons.{le_test, lt_test, not_lt_test, le_from}
-use Rattle.mr_ast.specs.declared.rule.Rule.{Rule}
-use Rattle.mr_layout.specs.Alike.{is_some_tag_used, is_variant_tag_used}
-use Rattle.mr_layout.specs.EnumRules.{is_some_used}
-use Rattle.mr_layout.specs.Sizes.{size_of}
-use Rattle.mr_layout.specs.Used.{Use, is_in, is_in_part, is_in_tag, is_used, is_used_field, is_used_in, is_used_variant}
-use Rattle.mr_layout.specs.Marks.{is_mark}
-use Rattle.mr_layout.specs.Tables.{Marks, is_first, is_used_row, is_row_mark, are_tags_inside, is_some_mark, is_some_tag_mark, either}
-use Rattle.mr_layout.specs.Rules.{or_else}
-use Rattle.mr_layout.specs.TypeOk.{broken_rule, first_broken_field, first_broken_variant}
+use Rattle.mr_layout.proofs.Common.{◌≡◌, ℕ, zero, suc, ◌+◌, ◌-◌, ◌*◌, ◌/◌, ◌%◌, ◌^◌, ◌<◌, ◌≤◌, ◌⊎◌, inl, inr, Bool, true, false, List, [], ◌∷◌, Option, Some, None, ◌++◌, refl, sym, subst, ap, ◌∙◌, length, get_or, take, drop, max, min, replicate, arith, nat_lt, nat_le, ◌&&◌, ◌||◌, slice_index, if◌then◌else◌, IfSome, mod-eq_of_lt, add-mul-mod_self_right, mod-mod_of_dvd, mod-mul-add, mod_below, and_parts, and_from, and_right, or_left, or_right, cases_lt, nat_tests, length-take, length-append, length-replicate, get_or_past, get_or-replicate, drop_more, drop_all, Tag, Ty, Variant, int_size, le_test, lt_test, not_lt_test, le_from, Rule, is_some_tag_used, is_variant_tag_used, is_some_used, size_of, Use, is_in, is_in_part, is_in_tag, is_used, is_used_field, is_used_in, is_used_variant, is_mark, Marks, is_first, is_used_row, is_row_mark, are_tags_inside, is_some_mark, is_some_tag_mark, or_else, broken_rule, first_broken_field, first_broken_variant}
+use Rattle.std.proofs.Math.Nat.{dvd_of_mod-eq-zero}
+use Rattle.std.proofs.lemmas.Nat.{div-add-mod', mul-le}
+use Rattle.std.proofs.lemmas.List.{get_or_append_left, get_or-append_right}
+use Rattle.mr_layout.specs.Tables.{either}
 use Rattle.mr_layout.proofs.FoldLaws.{mark_take, both_marks, or_false}
 use Rattle.mr_layout.proofs.MetLaws.{part_in, run_in}
 use Rattle.mr_layout.proofs.UsedLaws.{used_variant_is}

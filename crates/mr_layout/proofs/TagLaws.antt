@@ -1,23 +1,10 @@
 -- Whether a byte of a tag is used, by the ranges of the tags.
-use Rattle.std.proofs.Common.{◌≡◌, ℕ, zero, suc, ◌+◌, ◌-◌, ◌<◌, ◌≤◌, Bool, true, false, List, [], ◌∷◌, map, refl, sym, ap, ◌∙◌, arith}
-use Rattle.std.specs.Prelude.{nat_lt, nat_le, ◌&&◌, ◌||◌}
-use Rattle.std.specs.List.{list_any}
+use Rattle.mr_layout.proofs.Common.{◌≡◌, ℕ, zero, suc, ◌+◌, ◌-◌, ◌<◌, ◌≤◌, Bool, true, false, List, [], ◌∷◌, map, refl, sym, ap, ◌∙◌, arith, nat_lt, nat_le, ◌&&◌, ◌||◌, list_any, and_parts, and_from, and_right, nat_tests, Tag, Ty, int_size, is_fitting, not_empty, tag_range, are_tags_fitting, is_some_tag_used, is_some_used, is_in, is_in_part, is_in_chunk, is_used, is_some_below, is_met, le_from, lt_test, le_test, not_lt_test}
 use Rattle.std.specs.List.Sorted.{IsPermutation}
-use Rattle.std.proofs.lemmas.Bool.{and_parts, and_from, and_right}
-use Rattle.std.proofs.lemmas.Bool.Decides.{nat_tests}
 use Rattle.std.proofs.lemmas.List.Sorted.{list_any-IsPermutation}
-use Rattle.mr_ast.specs.declared.types.Tag.{Tag}
-use Rattle.mr_ast.specs.declared.types.Ty.{Ty}
-use Rattle.mr_ast.specs.Integers.{int_size, is_fitting}
-use Rattle.mr_base.specs.Pairs.{not_empty}
-use Rattle.mr_layout.specs.Alike.{tag_range, are_tags_fitting, is_some_tag_used}
-use Rattle.mr_layout.specs.EnumRules.{is_some_used}
-use Rattle.mr_layout.specs.Used.{is_in, is_in_part, is_in_chunk, is_used}
-use Rattle.mr_layout.specs.Met.{is_some_below, is_met}
 use Rattle.mr_layout.proofs.Below.{none_below, same_tests}
 use Rattle.mr_layout.proofs.GapLaws.{in_not_empty}
 use Rattle.mr_layout.proofs.RowLaws.{met_none, met_one}
-use Rattle.mr_base.proofs.Comparisons.{le_from, lt_test, le_test, not_lt_test}
 
 no_part : (b : Bool) → (b && false) ≡ false
 no_part true = refl

@@ -1,16 +1,7 @@
 -- What a tree without a fault keeps, and which variant a number names.
-use Rattle.std.proofs.Common.{◌≡◌, ℕ, ◌+◌, ◌≤◌, Bool, true, false, List, refl, sym, ap, ◌∙◌}
-use Rattle.std.specs.Prelude.{nat_le, not, ◌==◌, if◌then◌else◌}
-use Rattle.std.proofs.lemmas.Bool.{and_parts}
-use Rattle.mr_ast.specs.declared.types.IntType.{IntType}
-use Rattle.mr_ast.specs.declared.types.Num.{Num}
-use Rattle.mr_ast.specs.declared.types.Tree.{Tree}
+use Rattle.mr_layout.proofs.Common.{◌≡◌, ℕ, ◌+◌, ◌≤◌, Bool, true, false, List, refl, sym, ap, ◌∙◌, nat_le, not, ◌==◌, if◌then◌else◌, and_parts, IntType, Num, Tree, Variant, int_size, same_num, is_number_of, is_tree, are_tree_cases, le_from, eq_from}
 use Rattle.mr_ast.specs.declared.types.Tree.TheVariants as tree
-use Rattle.mr_ast.specs.declared.types.Variant.{Variant}
-use Rattle.mr_ast.specs.Integers.{int_size}
-use Rattle.mr_layout.specs.EnumRules.{same_num, is_number_of, is_tree, are_tree_cases}
 use Rattle.mr_layout.proofs.TreeLaws.{tree_known, tree_branch}
-use Rattle.mr_base.proofs.Comparisons.{le_from, eq_from}
 
 -- a branch reads inside the size, and its cases and the rest have no fault
 pub record BranchOk (size : ℕ) (variants : List Variant) (at : ℕ) (int : IntType) (cases : List (Num × Tree)) (rest : Tree) : Type 0 where

@@ -1,13 +1,5 @@
 -- One turn of a loop over the parts of a type: what a test of those that are left says of the next one.
-use Rattle.std.proofs.Common.{◌≡◌, ℕ, ◌+◌, ◌<◌, ◌≤◌, true, false, List, length, get_or, drop, sym, ap, ◌∙◌}
-use Rattle.std.specs.Prelude.{nat_le, not}
-use Rattle.std.proofs.lemmas.Bool.{and_parts}
-use Rattle.std.proofs.lemmas.List.{drop_more}
-use Rattle.mr_ast.specs.declared.types.Tag.{Tag}
-use Rattle.mr_ast.specs.declared.types.Ty.{Ty}
-use Rattle.mr_ast.specs.Integers.{int_size, is_fitting}
-use Rattle.mr_layout.specs.EnumRules.{meets_tag, is_some_used, are_tags}
-use Rattle.mr_base.proofs.Comparisons.{le_from, not_true}
+use Rattle.mr_layout.proofs.Common.{◌≡◌, ℕ, ◌+◌, ◌<◌, ◌≤◌, true, false, List, length, get_or, drop, sym, ap, ◌∙◌, nat_le, not, and_parts, drop_more, Tag, Ty, int_size, is_fitting, meets_tag, is_some_used, are_tags, le_from, not_true}
 
 -- a tag lies inside, has a number that fits, and has no byte in common with a later one or with the used bytes of its variant's type
 pub record TagTurn (size : ℕ) (t : Ty) (tags : List Tag) (i : ℕ) (g : Tag) : Type 0 where

@@ -1,22 +1,11 @@
 -- What a type without a broken rule keeps, for each kind that has parts or numbers of its own.
-use Rattle.std.proofs.Common.{◌≡◌, ℕ, ◌*◌, ◌%◌, ◌^◌, ◌≤◌, true, false, List, None, sym, ◌∙◌}
-use Rattle.std.specs.Prelude.{not, ◌&&◌, ◌||◌, ◌==◌}
-use Rattle.std.proofs.lemmas.Bool.{and_parts, or_parts}
-use Rattle.mr_ast.specs.declared.rule.Rule.TheVariants.{TypeSize, TypeAlign, FieldOutside, FieldOverlap, SizeMultiple, EnumVariant, EnumTag, EnumTree, UnionChunk}
-use Rattle.mr_ast.specs.declared.types.IntType.{IntType}
-use Rattle.mr_ast.specs.declared.types.Tree.{Tree}
-use Rattle.mr_ast.specs.declared.types.Ty.{Ty}
+use Rattle.mr_layout.proofs.Common.{◌≡◌, ℕ, ◌*◌, ◌%◌, ◌^◌, ◌≤◌, true, false, List, None, sym, ◌∙◌, not, ◌&&◌, ◌||◌, ◌==◌, and_parts, or_parts, TypeSize, TypeAlign, FieldOutside, SizeMultiple, EnumVariant, EnumTag, EnumTree, IntType, Tree, Ty, Variant, size_of, is_large, is_align, is_past, is_overlapping, is_chunk_past, is_rising, is_chunk_overlapping, are_covered, tuple_rules, array_rules, union_rules, are_variants, are_all_tags, is_tree, enum_rules, TypeOk, broken_rule, first_broken_field, first_broken_variant, eq_from, not_true, not_false}
+use Rattle.mr_ast.specs.declared.rule.Rule.TheVariants.{FieldOverlap, UnionChunk}
 use Rattle.mr_ast.specs.declared.types.Ty.TheVariants as ty
-use Rattle.mr_ast.specs.declared.types.Variant.{Variant}
-use Rattle.mr_layout.specs.Sizes.{size_of}
-use Rattle.mr_layout.specs.Rules.{is_large, is_align, is_past, is_overlapping, is_chunk_past, is_rising, is_chunk_overlapping, are_covered, tuple_rules, array_rules, union_rules}
-use Rattle.mr_layout.specs.EnumRules.{are_variants, are_all_tags, is_tree, enum_rules}
-use Rattle.mr_layout.specs.TypeOk.{TypeOk, broken_rule, first_broken_field, first_broken_variant}
 use Rattle.mr_layout.proofs.PartFacts.{FieldsOk, ChunksInside, VariantsOk}
 use Rattle.mr_layout.proofs.Bounds.{or_else_none, rule_none, small_of}
 use Rattle.mr_layout.proofs.BrokenLaws.{broken_tuple, broken_array, broken_union, broken_enum}
 use Rattle.mr_layout.proofs.PartsOk.{fields_ok, chunks_inside, variants_ok}
-use Rattle.mr_base.proofs.Comparisons.{eq_from, not_true, not_false}
 
 -- a size, and an alignment of which it is a multiple
 pub record SizeOk (size align : ℕ) : Type 0 where

@@ -1,15 +1,7 @@
 -- The equations of the types written in a type, a place and a value, one for each kind.
-use Rattle.std.proofs.Common.{◌≡◌, ℕ, Bool, List, [], ◌∷◌, ◌++◌, map, refl, sym, ap, ◌∙◌, append_assoc, append-nil}
-use Rattle.std.specs.List.{flat_map}
+use Rattle.mr_layout.proofs.Common.{◌≡◌, ℕ, Bool, List, [], ◌∷◌, ◌++◌, map, refl, sym, ap, ◌∙◌, flat_map, IntType, Num, Tree, Ty, roll-Ty, Ty-F, map-Ty, para-roll-Ty, para-roll-Variant, Variant, out-Variant, parts_of, types_of, types_of_fields, types_of_variants, types_of_place, types_of_value, types_of_values}
+use Rattle.std.proofs.Common.{append_assoc, append-nil}
 use Rattle.std.proofs.lemmas.List.Folds.{flat_map-map}
-use Rattle.mr_ast.specs.declared.types.IntType.{IntType}
-use Rattle.mr_ast.specs.declared.types.Num.{Num}
-use Rattle.mr_ast.specs.declared.types.Tree.{Tree}
-use Rattle.mr_ast.specs.declared.types.Ty.{Ty, roll-Ty}
-use Rattle.mr_ast.specs.declared.types.Ty.TheVariants as ty
-use Rattle.mr_ast.specs.declared.types.Ty.TheOpen.{Ty-F}
-use Rattle.mr_ast.specs.declared.types.Ty.TheFolds.{map-Ty, para-roll-Ty, para-roll-Variant}
-use Rattle.mr_ast.specs.declared.types.Variant.{Variant, out-Variant}
 use Rattle.mr_ast.specs.declared.program.FnName.{FnName}
 use Rattle.mr_ast.specs.declared.program.GlobalName.{GlobalName}
 use Rattle.mr_ast.specs.declared.program.LocalName.{LocalName}
@@ -17,11 +9,12 @@ use Rattle.mr_ast.specs.declared.expr.UnaryOp.{UnaryOp}
 use Rattle.mr_ast.specs.declared.expr.BinaryOp.{BinaryOp}
 use Rattle.mr_ast.specs.declared.expr.Place.{Place, roll-Place}
 use Rattle.mr_ast.specs.declared.expr.Value.{Value, roll-Value}
-use Rattle.mr_ast.specs.declared.expr.Place.TheVariants as place
-use Rattle.mr_ast.specs.declared.expr.Value.TheVariants as value
 use Rattle.mr_ast.specs.declared.expr.Place.TheOpen.{Place-F, Value-F}
 use Rattle.mr_ast.specs.declared.expr.Place.TheFolds.{map-Place, map-Value, fold-roll-Place, fold-roll-Value}
-use Rattle.mr_layout.specs.Written.{part_and_its_parts, parts_step, variant_parts_step, parts_of, parts_of_variant, types_of, types_of_fields, types_of_variants, place_types_step, value_types_step, types_of_place, types_of_value, types_of_values}
+use Rattle.mr_layout.specs.Written.{part_and_its_parts, parts_step, variant_parts_step, parts_of_variant, place_types_step, value_types_step}
+use Rattle.mr_ast.specs.declared.types.Ty.TheVariants as ty
+use Rattle.mr_ast.specs.declared.expr.Place.TheVariants as place
+use Rattle.mr_ast.specs.declared.expr.Value.TheVariants as value
 
 abbrev Types : Type 0
 Types = List Ty

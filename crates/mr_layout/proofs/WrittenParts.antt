@@ -1,14 +1,8 @@
 -- The types that are written in a program hold their parts, and the parts of a well-formed type are well-formed.
-use Rattle.std.proofs.Common.{◌≡◌, ℕ, List, [], ◌∷◌}
-use Rattle.std.specs.Prelude.{All}
+use Rattle.mr_layout.proofs.Common.{◌≡◌, ℕ, List, [], ◌∷◌, All, Ty, Variant, AllFields, AllVariants, TypeCases, type_induction, TypeOk, parts_of, types_of, types_of_fields, types_of_variants}
 use Rattle.std.proofs.lemmas.List.Elements.{All-nil, All-cons, All-append, All-same}
-use Rattle.mr_ast.specs.declared.types.Ty.{Ty}
 use Rattle.mr_ast.specs.declared.types.Ty.TheVariants as ty
-use Rattle.mr_ast.specs.declared.types.Variant.{Variant}
-use Rattle.mr_ast.proofs.TypeInduction.{AllFields, AllVariants, TypeCases, type_induction}
-use Rattle.mr_layout.specs.TypeOk.{TypeOk}
 use Rattle.mr_layout.proofs.PartFacts.{FieldsOk, VariantsOk}
-use Rattle.mr_layout.specs.Written.{parts_of, types_of, types_of_fields, types_of_variants}
 use Rattle.mr_layout.proofs.WrittenLaws.{parts_int, parts_bool, parts_raw, parts_fn_ptr, parts_ref, parts_tuple, parts_array, parts_union, parts_enum}
 use Rattle.mr_layout.proofs.WellFormed.{tuple_ok, array_ok, union_ok, enum_ok}
 

@@ -1,8 +1,6 @@
 -- What an answer says that gives what reading gives.
-use Rattle.std.proofs.Common.{◌≡◌, ℕ, List, subst}
-use Rattle.std.specs.Prelude.{Result, Ok, Err, IfOk}
-use Rattle.mr_lex.specs.Tokens.{Lexeme, Lexes, AreInOrder, FirstFault}
-use Rattle.mr_lex.specs.Reading.{lexed, Gives}
+use Rattle.mr_lex.proofs.Common.{◌≡◌, ℕ, List, subst, Result, Ok, Err, Lexeme, Lexes, AreInOrder, FirstFault, lexed, Gives}
+use Rattle.std.specs.Prelude.{IfOk}
 use Rattle.mr_lex.specs.declared.token.TextFault.{TextFault}
 use Rattle.mr_lex.specs.declared.token.LexFault.{LexFault}
 use Rattle.mr_lex.specs.declared.token.LexFault.TheVariants.{Bad}

@@ -1,5 +1,6 @@
 pub mod AnswerLaws
 pub mod ByteLaws
+mod Common
 pub mod DecimalLaws
 pub mod NumberLaws
 pub mod PieceLaws

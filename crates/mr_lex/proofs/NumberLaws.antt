@@ -1,9 +1,6 @@
 -- The values of digits.
-use Rattle.std.proofs.Common.{zero, suc, ◌+◌, ◌-◌, ◌*◌, ◌≤◌, [], ◌∷◌, take, ◌≡◌, ℕ, ◌<◌, true, length, List, get_or, arith}
+use Rattle.mr_lex.proofs.Common.{zero, suc, ◌+◌, ◌-◌, ◌*◌, ◌≤◌, [], ◌∷◌, take, ◌≡◌, ℕ, ◌<◌, true, length, List, get_or, arith, nat_tests, number_of, IsFineNumber, is_fine_number}
 use Rattle.std.specs.List.{fold}
-use Rattle.std.proofs.lemmas.Bool.Decides.{nat_tests}
-use Rattle.mr_lex.specs.Numbers.{number_of, IsFineNumber}
-use Rattle.mr_lex.specs.Reading.{is_fine_number}
 
 -- the test of a number
 pub is_fine_number-true : (digits : List ℕ) → is_fine_number digits ≡ true → IsFineNumber digits

@@ -1,14 +1,7 @@
 -- The piece at the front of a text: which one it is, and that there is only one.
-use Rattle.std.proofs.Common.{◌≡◌, ℕ, ◌<◌, Bool, true, false, cond, ◌&&◌, ◌⊎◌, inl, inr, ⊎_elim, List, [], ◌∷◌, ◌++◌, length, get_or, refl, sym, ap, ◌∙◌, subst, arith}
-use Rattle.std.specs.Prelude.{IsTrue, Ok, Err}
-use Rattle.std.specs.List.{AllByRecursion, take_while}
-use Rattle.std.proofs.lemmas.Bool.{cond-true, cond-false, cases_Bool, eqb-true, and_from, and_left, and_right, and_parts, false_from_ne_true, both_ways}
-use Rattle.mr_lex.specs.Bytes.{is_blank, is_inline, begins_comment, is_letter, is_digit, is_word_byte, is_symbol, begins_arrow, ends_arrow, begins}
-use Rattle.mr_lex.specs.Numbers.{IsFineNumber}
-use Rattle.mr_lex.specs.Pieces.{Piece, Blank, Comment, Word, Number, Symbol, spelling_of, IsRun, IsPiece, IsFine}
-use Rattle.mr_lex.specs.Tokens.{IsBadByte, IsBadNumber, IsFaulty}
-use Rattle.mr_lex.specs.Scanning.{IsOneLine}
-use Rattle.mr_lex.specs.Reading.{is_fine_number, number_at, symbol_at, piece_at}
+use Rattle.mr_lex.proofs.Common.{◌≡◌, ℕ, ◌<◌, Bool, true, false, cond, ◌⊎◌, inl, inr, ⊎_elim, List, [], ◌∷◌, ◌++◌, length, get_or, refl, sym, ap, ◌∙◌, subst, arith, IsTrue, Ok, Err, AllByRecursion, take_while, cond-true, cond-false, cases_Bool, and_right, false_from_ne_true, both_ways, is_blank, is_inline, begins_comment, is_letter, is_digit, is_word_byte, is_symbol, begins_arrow, ends_arrow, begins, IsFineNumber, Piece, Blank, Comment, Word, Number, Symbol, spelling_of, IsRun, IsPiece, IsFine, IsBadByte, IsBadNumber, IsFaulty, IsOneLine, is_fine_number, number_at, symbol_at, piece_at}
+use Rattle.std.proofs.Common.{◌&&◌}
+use Rattle.std.proofs.lemmas.Bool.{eqb-true, and_from, and_left, and_parts}
 use Rattle.mr_lex.proofs.ByteLaws.{letter_no_blank, letter_no_comment, digit_no_blank, digit_no_comment, digit_no_letter, symbol_no_blank, symbol_no_comment, symbol_no_letter, symbol_no_digit, arrow_symbol, letter_word_byte, comment_inline, word_byte_inline, digit_inline, arrow_inline, arrow_end_inline, begins_nothing, nothing_begins}
 use Rattle.mr_lex.proofs.NumberLaws.{is_fine_number-true, fine_is_fine_number}
 use Rattle.mr_lex.proofs.RunLaws.{take_while_run, take_while_is_run}

@@ -1,12 +1,10 @@
 -- How lines and columns go on.
-use Rattle.std.proofs.Common.{◌≡◌, ℕ, zero, suc, ◌+◌, ◌-◌, ◌<◌, ◌≤◌, true, false, eqb, List, ◌∷◌, length, get_or, take, drop, sym, ap, ◌∙◌, subst, ⊎_elim, arith, length-take, length-drop, add-zero}
-use Rattle.std.specs.Prelude.{IsTrue, slice_range}
-use Rattle.std.specs.List.{AllByRecursion, suffix_len}
-use Rattle.std.proofs.lemmas.Bool.{not-true, not-false, both_ways}
+use Rattle.mr_lex.proofs.Common.{◌≡◌, ℕ, zero, suc, ◌+◌, ◌-◌, ◌<◌, ◌≤◌, true, false, List, ◌∷◌, length, get_or, take, drop, sym, ap, ◌∙◌, subst, ⊎_elim, arith, length-take, length-drop, add-zero, IsTrue, slice_range, AllByRecursion, both_ways, is_inline, IsOneLine}
+use Rattle.std.proofs.Common.{eqb}
+use Rattle.std.specs.List.{suffix_len}
+use Rattle.std.proofs.lemmas.Bool.{not-true, not-false}
 use Rattle.std.proofs.lemmas.List.{drop_more}
 use Rattle.std.proofs.lemmas.List.Sums.{count_by_more_no, count_by_more_yes, suffix_len-take_yes, suffix_len-take_no, suffix_len-le-length}
-use Rattle.mr_lex.specs.Bytes.{is_inline}
-use Rattle.mr_lex.specs.Scanning.{IsOneLine}
 use Rattle.mr_lex.specs.Places.{line_of, column_of}
 
 -- a column is at most one more than the offset

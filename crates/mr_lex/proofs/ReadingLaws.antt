@@ -1,12 +1,8 @@
 -- Reading gives the tokens of a text, or its first fault, and nothing else is either.
-use Rattle.std.proofs.Common.{◌≡◌, ℕ, ◌-◌, ◌^◌, ◌<◌, ◌≤◌, true, cond, ltb, ◌⊎◌, inl, inr, ⊎_elim, List, [], ◌∷◌, ◌++◌, length, refl, sym, ap, ◌∙◌, subst, arith}
-use Rattle.std.specs.Prelude.{Ok, Err}
-use Rattle.std.specs.List.{AllByRecursion}
-use Rattle.std.proofs.lemmas.Bool.{cond-true, cond-false, cases_lt, lt-ltb, le-ltb}
-use Rattle.mr_lex.specs.Bytes.{is_digit, begins}
-use Rattle.mr_lex.specs.Pieces.{Piece, IsFine, Splits, row_of}
-use Rattle.mr_lex.specs.Tokens.{Lexeme, Lexes, lexemes_from, fault_at, IsBadByte, IsBadNumber, IsFaulty, StopsAt, FirstFault}
-use Rattle.mr_lex.specs.Reading.{split_of, outcome_of, lexed}
+use Rattle.mr_lex.proofs.Common.{◌≡◌, ℕ, ◌-◌, ◌^◌, ◌<◌, ◌≤◌, true, cond, ◌⊎◌, inl, inr, ⊎_elim, List, [], ◌∷◌, ◌++◌, length, refl, sym, ap, ◌∙◌, subst, arith, Ok, Err, AllByRecursion, cond-true, cond-false, is_digit, begins, Piece, IsFine, Splits, row_of, Lexeme, Lexes, lexemes_from, fault_at, IsBadByte, IsBadNumber, IsFaulty, StopsAt, FirstFault, split_of, lexed}
+use Rattle.std.proofs.Common.{ltb}
+use Rattle.std.proofs.lemmas.Bool.{cases_lt, lt-ltb, le-ltb}
+use Rattle.mr_lex.specs.Reading.{outcome_of}
 use Rattle.mr_lex.specs.declared.token.TextFault.{TextFault}
 use Rattle.mr_lex.proofs.ByteLaws.{begins_nothing}
 use Rattle.mr_lex.proofs.SplitLaws.{Ends, split_of_row, Row, row_of_text}

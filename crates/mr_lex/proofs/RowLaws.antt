@@ -1,10 +1,5 @@
 -- Rows of pieces, and their lexemes.
-use Rattle.std.proofs.Common.{◌≡◌, ℕ, ◌+◌, ◌-◌, ◌≤◌, List, [], ◌∷◌, ◌++◌, length, take, drop, refl, sym, ap, ◌∙◌, subst, arith, append_assoc, length-append, length-drop, add-zero}
-use Rattle.std.specs.Prelude.{slice_range}
-use Rattle.std.specs.List.{AllByRecursion}
-use Rattle.std.proofs.lemmas.List.{append-nil, drop-drop, drop_at, take_at}
-use Rattle.mr_lex.specs.Pieces.{Piece, Blank, Comment, Word, Number, Symbol, spelling_of, IsPiece, IsFine, row_of, ArePieces, Splits}
-use Rattle.mr_lex.specs.Tokens.{Lexeme, lexemes_at, lexemes_from, AreInOrder, Lexes}
+use Rattle.mr_lex.proofs.Common.{◌≡◌, ℕ, ◌+◌, ◌-◌, ◌≤◌, List, [], ◌∷◌, ◌++◌, length, take, drop, refl, sym, ap, ◌∙◌, subst, arith, append_assoc, length-append, length-drop, add-zero, slice_range, AllByRecursion, append-nil, drop-drop, drop_at, take_at, Piece, Blank, Comment, Word, Number, Symbol, spelling_of, IsPiece, IsFine, row_of, ArePieces, Splits, Lexeme, lexemes_at, lexemes_from, AreInOrder, Lexes}
 
 -- one more piece at the end of a row
 row_of-push : (pieces : List Piece) (piece : Piece) (rest : List ℕ) → row_of (pieces ++ piece ∷ []) rest ≡ row_of pieces (spelling_of piece ++ rest)

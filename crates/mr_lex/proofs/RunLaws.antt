@@ -1,11 +1,9 @@
 -- Runs of bytes that pass a test.
-use Rattle.std.proofs.Common.{◌≡◌, ℕ, ◌<◌, Bool, take, get_or-take, length-take, arith, List, [], ◌∷◌, ◌++◌, refl, sym, ap, ◌∙◌, subst, ⊎_elim}
-use Rattle.std.specs.Prelude.{IsTrue, IsFalse}
-use Rattle.std.specs.List.{AllByRecursion, AllPass, take_while, prefix_len}
-use Rattle.std.proofs.lemmas.Bool.{cond-true, cond-false, cases_Bool}
+use Rattle.mr_lex.proofs.Common.{◌≡◌, ℕ, ◌<◌, Bool, take, length-take, arith, List, [], ◌∷◌, ◌++◌, refl, sym, ap, ◌∙◌, subst, ⊎_elim, IsTrue, AllByRecursion, AllPass, take_while, cond-true, cond-false, cases_Bool, begins, IsRun}
+use Rattle.std.proofs.Common.{get_or-take}
+use Rattle.std.specs.Prelude.{IsFalse}
+use Rattle.std.specs.List.{prefix_len}
 use Rattle.std.proofs.lemmas.List.Sums.{take_while-cons, prefix_len_passes}
-use Rattle.mr_lex.specs.Bytes.{begins}
-use Rattle.mr_lex.specs.Pieces.{IsRun}
 
 -- the bytes are the longest front of a text that passes the test
 pub record IsFront (each : ℕ → Bool) (text bytes behind : List ℕ) : Type 0 where

@@ -1,13 +1,10 @@
 -- A text of which the front has been read.
-use Rattle.std.proofs.Common.{◌≡◌, ℕ, ◌+◌, ◌-◌, ◌^◌, ◌<◌, ◌≤◌, List, [], ◌∷◌, ◌++◌, length, take, drop, map, refl, sym, ap, ◌∙◌, subst, arith, length-append, length-drop}
-use Rattle.std.specs.Prelude.{Ok, Err, slice_range}
-use Rattle.std.specs.List.{AllByRecursion}
-use Rattle.std.proofs.lemmas.List.{append-nil, drop-drop, drop_at, drop_all, take_at, take_rest, map-append}
-use Rattle.mr_lex.specs.Pieces.{Piece, spelling_of, IsFine, Splits, row_of}
-use Rattle.mr_lex.specs.Tokens.{lexeme_at, lexemes_at, lexemes_from, Lexes, fault_at, StopsAt}
-use Rattle.mr_lex.specs.Scanning.{piece_of, found_in, Finds, IsPlaceIn, IsOneLine}
-use Rattle.mr_lex.specs.Spans.{lexeme_in, AreBetween, spans_of}
-use Rattle.mr_lex.specs.Reading.{piece_at}
+use Rattle.mr_lex.proofs.Common.{◌≡◌, ℕ, ◌+◌, ◌-◌, ◌^◌, ◌<◌, ◌≤◌, List, [], ◌∷◌, ◌++◌, length, take, drop, refl, sym, ap, ◌∙◌, subst, arith, length-append, length-drop, Ok, Err, slice_range, AllByRecursion, append-nil, drop-drop, drop_at, take_at, Piece, spelling_of, IsFine, Splits, row_of, lexemes_at, lexemes_from, Lexes, fault_at, StopsAt, IsOneLine, lexeme_in, AreBetween, piece_at}
+use Rattle.std.proofs.Common.{map}
+use Rattle.std.proofs.lemmas.List.{drop_all, take_rest, map-append}
+use Rattle.mr_lex.specs.Tokens.{lexeme_at}
+use Rattle.mr_lex.specs.Scanning.{piece_of, found_in, Finds, IsPlaceIn}
+use Rattle.mr_lex.specs.Spans.{spans_of}
 use Rattle.mr_lex.specs.declared.list.Span.{Span}
 use Rattle.mr_lex.specs.declared.place.Place.{Place}
 use Rattle.mr_lex.specs.declared.piece.Found.{Found}

@@ -1,13 +1,7 @@
 -- The bytes of a lexeme, by its kind.
-use Rattle.std.proofs.Common.{◌≡◌, ℕ, ◌+◌, false, List, [], ◌∷◌, ◌++◌, length, refl, sym, subst}
-use Rattle.std.specs.Prelude.{IsTrue}
-use Rattle.std.specs.List.{AllByRecursion}
+use Rattle.mr_lex.proofs.Common.{◌≡◌, ℕ, ◌+◌, false, List, [], ◌∷◌, ◌++◌, length, refl, sym, subst, IsTrue, AllByRecursion, and_right, is_letter, is_word_byte, begins_arrow, begins, number_of, IsFineNumber, Piece, Blank, Comment, Word, Number, Symbol, spelling_of, IsPiece, IsFine, row_of, ArePieces, Lexeme, lexemes_at, lexemes_from, Lexes}
 use Rattle.std.specs.Fmt.{decimal}
-use Rattle.std.proofs.lemmas.Bool.{and_right}
-use Rattle.mr_lex.specs.Bytes.{is_letter, is_word_byte, begins_arrow, begins}
-use Rattle.mr_lex.specs.Numbers.{number_of, IsFineNumber}
-use Rattle.mr_lex.specs.Pieces.{Piece, Blank, Comment, Word, Number, Symbol, spelling_of, IsSymbol, IsPiece, IsFine, row_of, ArePieces}
-use Rattle.mr_lex.specs.Tokens.{Lexeme, lexemes_at, lexemes_from, Lexes}
+use Rattle.mr_lex.specs.Pieces.{IsSymbol}
 use Rattle.mr_lex.specs.declared.token.TokenKind.{TokenKind}
 use Rattle.mr_lex.specs.declared.token.TokenKind.TheVariants as kinds
 use Rattle.mr_lex.proofs.DecimalLaws.{AreDigits, decimal-number_of}

@@ -1,8 +1,6 @@
 -- The spans of a text.
-use Rattle.std.proofs.Common.{◌≡◌, ℕ, zero, suc, ◌+◌, ◌<◌, ◌≤◌, List, [], ◌∷◌, ◌++◌, length, get_or, refl, sym, ap, ◌∙◌, arith}
-use Rattle.std.specs.Prelude.{Some, slice_get}
+use Rattle.mr_lex.proofs.Common.{◌≡◌, ℕ, zero, suc, ◌+◌, ◌<◌, ◌≤◌, List, [], ◌∷◌, ◌++◌, length, get_or, refl, sym, ap, ◌∙◌, arith, Some, slice_get, AreBetween}
 use Rattle.std.proofs.lemmas.Option.{slice_get_read}
-use Rattle.mr_lex.specs.Spans.{AreBetween}
 use Rattle.mr_lex.specs.declared.list.Span.{Span}
 
 between_le : (from to : ℕ) (spans : List Span) → AreBetween from to spans → from ≤ to

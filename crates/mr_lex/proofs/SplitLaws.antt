@@ -1,11 +1,5 @@
 -- A text splits in one way into pieces and a rest that begins with a fault or is empty.
-use Rattle.std.proofs.Common.{◌≡◌, ℕ, zero, suc, ◌≤◌, ◌⊎◌, inl, inr, ⊎_elim, List, [], ◌∷◌, ◌++◌, length, drop, refl, ap, ◌∙◌, subst, arith, length-append}
-use Rattle.std.specs.Prelude.{Result, Ok, Err}
-use Rattle.std.specs.List.{AllByRecursion}
-use Rattle.std.proofs.lemmas.List.{drop_at}
-use Rattle.mr_lex.specs.Pieces.{Piece, spelling_of, IsPiece, IsFine, row_of, ArePieces, Splits}
-use Rattle.mr_lex.specs.Tokens.{IsFaulty}
-use Rattle.mr_lex.specs.Reading.{piece_at, number_at, symbol_at, split_of}
+use Rattle.mr_lex.proofs.Common.{◌≡◌, ℕ, zero, suc, ◌≤◌, ◌⊎◌, inl, inr, ⊎_elim, List, [], ◌∷◌, ◌++◌, length, drop, refl, ap, ◌∙◌, subst, arith, length-append, Result, Ok, Err, AllByRecursion, drop_at, Piece, spelling_of, IsPiece, IsFine, row_of, ArePieces, Splits, IsFaulty, piece_at, number_at, symbol_at, split_of}
 use Rattle.mr_lex.proofs.PieceLaws.{piece_at_piece, piece_at_fault, front_of, BeginsWith, spelling_some}
 
 -- how reading goes on

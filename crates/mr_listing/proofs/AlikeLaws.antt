@@ -1,27 +1,15 @@
 -- The races of one pair of places among the races by their places: how many there are, and which is the first.
-use Rattle.std.proofs.Common.{◌≡◌, ℕ, zero, suc, ◌+◌, ◌<◌, Bool, true, false, cond, arith, List, [], ◌∷◌, ◌++◌, length}
-use Rattle.std.proofs.Common.{append-nil, get_or, take, refl, sym, ap, ap₂, ◌∙◌}
-use Rattle.std.proofs.lemmas.Bool.Decides.{nat_tests}
+use Rattle.mr_listing.proofs.Common.{◌≡◌, ℕ, zero, suc, ◌+◌, ◌<◌, Bool, true, false, cond, arith, List, [], ◌∷◌, ◌++◌, length, append-nil, get_or, take, refl, sym, ap, ap₂, ◌∙◌, nat_tests, take_more, filter_agree, ranks_by, IsStrictWeakOrder, ◌&&◌, ◌||◌, ◌==◌, not, if◌then◌else◌, nat_le, nat_lt, Option, None, Some, slice_get, filter, list_any, IsSortedBy, IsStableBy, ties, is_eq, is_lt, nat_cmp, Pair, Stand, Group, Numbered, before_of, first_group, group_of, same_places, same_stand, Seen, with_numbers, place_index}
 use Rattle.std.proofs.lemmas.Cmp.{nat_cmp_total, on_total, then_total}
-use Rattle.std.proofs.lemmas.List.{take_more}
-use Rattle.std.proofs.lemmas.List.Elements.{filter_agree}
-use Rattle.std.proofs.lemmas.List.Sorted.{ranks_by, searchable_from_sorted}
+use Rattle.std.proofs.lemmas.List.Sorted.{searchable_from_sorted}
 use Rattle.std.proofs.lemmas.List.Sums.{length-filter}
-use Rattle.std.specs.Cmp.{IsStrictWeakOrder, IsTotalOrder}
+use Rattle.std.specs.Cmp.{IsTotalOrder}
 use Rattle.std.specs.Cmp.Lexicographic.{options_total}
-use Rattle.std.specs.Prelude.{◌&&◌, ◌||◌, ◌==◌, not, if◌then◌else◌, count_by, nat_le, nat_lt, Option, None, Some, slice_get}
-use Rattle.std.specs.List.{filter, list_any}
-use Rattle.std.specs.List.Sorted.{IsSortedBy, IsStableBy, ties}
-use Rattle.std.specs.Ordering.{is_eq, is_lt, nat_cmp, ordering_index, ordering_reverse, ordering_then}
+use Rattle.std.specs.Prelude.{count_by}
+use Rattle.std.specs.Ordering.{ordering_index, ordering_reverse, ordering_then}
 use Rattle.std.specs.declared.cmp.Ordering.{Ordering}
 use Rattle.std.specs.declared.cmp.Ordering.TheVariants.{Equal, Greater, Less}
-use Rattle.mr_event.specs.declared.footprint.Pair.{Pair}
-use Rattle.mr_labels.specs.declared.step.Stand.{Stand}
-use Rattle.mr_listing.specs.declared.pairs.Group.{Group}
-use Rattle.mr_listing.specs.declared.sorted.Numbered.{Numbered}
-use Rattle.mr_listing.specs.Races.{before_of, first_group, group_of, same_places, same_stand}
-use Rattle.mr_listing.specs.Seen.{Seen}
-use Rattle.mr_listing.specs.Sorted.{AreByPlaces, begins_before, is_alike, with_numbers, place_index, places_cmp, spot_cmp, stand_cmp}
+use Rattle.mr_listing.specs.Sorted.{AreByPlaces, begins_before, is_alike, places_cmp, spot_cmp, stand_cmp}
 use Rattle.mr_listing.proofs.OnceLaws.{places_turned}
 use Rattle.mr_listing.proofs.PartnerLaws.{filter_twice}
 

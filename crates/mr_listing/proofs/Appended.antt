@@ -1,8 +1,7 @@
 -- Texts that are written piece by piece, and line after line.
-use Rattle.std.proofs.Common.{◌≡◌, ℕ, ◌+◌, ◌<◌, List, ◌++◌, Result, Ok, Err, append_assoc, ap, get_or, length, sym, take}
-use Rattle.std.proofs.Common.{◌∙◌}
-use Rattle.std.proofs.lemmas.List.{flat_map_more, take_more}
-use Rattle.std.specs.Prelude.{OnOk, flat_map}
+use Rattle.mr_listing.proofs.Common.{◌≡◌, ℕ, ◌+◌, ◌<◌, List, ◌++◌, append_assoc, ap, get_or, length, sym, take, ◌∙◌, take_more, OnOk, flat_map}
+use Rattle.std.proofs.Common.{Result, Ok, Err}
+use Rattle.std.proofs.lemmas.List.{flat_map_more}
 
 -- a piece behind the first ones
 pub behind : (old first piece now next : List ℕ) → now ≡ old ++ first → next ≡ now ++ piece

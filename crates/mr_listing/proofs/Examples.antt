@@ -1,23 +1,19 @@
 -- Parts of texts, computed.
-use Rattle.std.proofs.Common.{◌≡◌, true, false, [], ◌∷◌, Option, Some, None, codes, refl}
+use Rattle.mr_listing.proofs.Common.{◌≡◌, true, false, [], ◌∷◌, Option, Some, None, codes, refl, Stand, bytes_text, Seen, same_stand, spot_text, statement_text, partner_line, partners_at}
 use Rattle.std.specs.Fmt.{digits}
 use Rattle.mr_ast.specs.declared.program.Program.{Program}
-use Rattle.mr_base.specs.declared.thread.Event.TheVariants as event
 use Rattle.mr_base.specs.declared.thread.Status.{Status}
 use Rattle.mr_base.specs.declared.thread.Status.TheVariants.{Enabled, OnJoin, OnLock}
 use Rattle.mr_labels.specs.declared.step.ToldStep.{ToldStep}
-use Rattle.mr_labels.specs.declared.step.Stand.{Stand}
-use Rattle.mr_listing.specs.declared.held.Held.TheVariants as held
 use Rattle.mr_listing.specs.declared.held.StepValues.{StepValues}
-use Rattle.mr_listing.specs.Accesses.{bytes_text, value_text}
+use Rattle.mr_listing.specs.Accesses.{value_text}
 use Rattle.mr_listing.specs.Held.{held_for}
-use Rattle.mr_listing.specs.Seen.{Seen}
 use Rattle.mr_listing.specs.Events.{event_text}
-use Rattle.mr_listing.specs.Races.{same_stand, times_text}
-use Rattle.mr_listing.specs.Spots.{spot_text, statement_text}
-use Rattle.mr_listing.specs.Partners.{partner_line, partners_at}
+use Rattle.mr_listing.specs.Races.{times_text}
 use Rattle.mr_listing.specs.Steps.{stop_text}
 use Rattle.mr_labels.specs.Words.{behind_text}
+use Rattle.mr_base.specs.declared.thread.Event.TheVariants as event
+use Rattle.mr_listing.specs.declared.held.Held.TheVariants as held
 
 -- ---- statements
 

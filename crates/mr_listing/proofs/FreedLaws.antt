@@ -1,14 +1,12 @@
 -- An allocation is among what a run freed where a step of the run freed it.
-use Rattle.std.proofs.Common.{◌≡◌, ◌∙◌, ℕ, List, [], ◌∷◌, ap, map, refl, sym}
-use Rattle.std.specs.Prelude.{◌||◌}
+use Rattle.mr_listing.proofs.Common.{◌≡◌, ◌∙◌, ℕ, List, [], ◌∷◌, ap, map, refl, sym, ◌||◌, list_any, freed_pairs, id_pair}
 use Rattle.std.proofs.lemmas.List.Folds.{list_any-append}
 use Rattle.std.proofs.lemmas.List.Sorted.{list_any-IsPermutation}
-use Rattle.std.specs.List.{list_any}
 use Rattle.mr_base.specs.declared.byte.AllocId.{AllocId}
 use Rattle.mr_base.specs.Identities.{same_id}
 use Rattle.mr_base.specs.Pairs.{same_pair}
 use Rattle.mr_event.specs.Footprint.{Footprint}
-use Rattle.mr_listing.specs.Freed.{AreFreed, freed_pairs, id_pair}
+use Rattle.mr_listing.specs.Freed.{AreFreed}
 use Rattle.mr_listing.specs.Leaks.{freed_by, is_freed}
 
 among_ids : (id : AllocId) (ids : List AllocId) → list_any (same_pair (id_pair id)) (map id_pair ids) ≡ list_any (same_id id) ids

@@ -1,14 +1,8 @@
 -- The groups of races: how many each has.
-use Rattle.std.proofs.Common.{ℕ, ◌≤◌, Bool, true, false, List, [], ◌∷◌, length}
+use Rattle.mr_listing.proofs.Common.{ℕ, ◌≤◌, Bool, true, false, List, [], ◌∷◌, length, All, if◌then◌else◌, flat_map, Option, None, Some, slice_get, take, list_any, range_with_len, IsPermutation, Pair, Group, first_group, group_of, groups, numbered_group, same_places, Seen}
 use Rattle.std.proofs.lemmas.List.Elements.{All-append, All-cons, All-nil}
 use Rattle.std.proofs.lemmas.List.Sums.{count_by-le-length}
-use Rattle.std.specs.Prelude.{All, if◌then◌else◌, flat_map, Option, None, Some, slice_get, take}
-use Rattle.std.specs.List.{list_any, range_with_len}
-use Rattle.std.specs.List.Sorted.{IsPermutation}
-use Rattle.mr_event.specs.declared.footprint.Pair.{Pair}
-use Rattle.mr_listing.specs.declared.pairs.Group.{Group}
-use Rattle.mr_listing.specs.Races.{first_group, group_of, groups, numbered_group, ranked, same_places}
-use Rattle.mr_listing.specs.Seen.{Seen}
+use Rattle.mr_listing.specs.Races.{ranked}
 use Rattle.mr_listing.proofs.RankLaws.{by_count_permutes}
 
 all_flat : {X Y : Type 0} (P : Y → Type 0) (f : X → List Y) → ((x : X) → All P (f x)) → (xs : List X) → All P (flat_map f xs)

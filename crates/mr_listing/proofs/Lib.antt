@@ -1,5 +1,6 @@
 pub mod AlikeLaws
 pub mod Appended
+mod Common
 mod Examples
 pub mod FreedLaws
 pub mod GroupLaws

@@ -1,21 +1,12 @@
 -- Each race is of the places of exactly one group.
-use Rattle.std.proofs.Common.{◌≡◌, ℕ, zero, suc, ◌+◌, ◌<◌, ◌≤◌, Bool, true, false, cond, arith, List, [], ◌∷◌, ◌++◌, length}
-use Rattle.std.proofs.Common.{get_or, take, refl, sym, ap, ap₂, ◌∙◌}
+use Rattle.mr_listing.proofs.Common.{◌≡◌, ℕ, zero, suc, ◌+◌, ◌<◌, ◌≤◌, Bool, true, false, cond, arith, List, [], ◌∷◌, ◌++◌, length, get_or, take, refl, sym, ap, ap₂, ◌∙◌, nat_tests, ◌&&◌, ◌||◌, ◌==◌, if◌then◌else◌, flat_map, Option, None, Some, slice_get, filter, list_any, range_with_len, Pair, Stand, appended_next, Group, before_of, first_group, group_of, groups, numbered_group, same_places, same_stand, Seen}
 use Rattle.std.proofs.lemmas.Bool.{eq-eqb, eqb-true}
-use Rattle.std.proofs.lemmas.Bool.Decides.{nat_tests}
 use Rattle.std.proofs.lemmas.List.{length-append, take_all}
 use Rattle.std.proofs.lemmas.List.Elements.{filter-append}
 use Rattle.std.proofs.lemmas.List.Folds.{list_any_at, list_any_more}
 use Rattle.std.proofs.lemmas.Option.{slice_get-get_or}
-use Rattle.std.specs.Prelude.{◌&&◌, ◌||◌, ◌==◌, if◌then◌else◌, flat_map, Option, None, Some, slice_get}
-use Rattle.std.specs.List.{Contains, filter, list_any, range_with_len}
-use Rattle.mr_event.specs.declared.footprint.Pair.{Pair}
-use Rattle.mr_labels.specs.declared.step.Stand.{Stand}
-use Rattle.mr_labels.proofs.Growing.{appended_next}
-use Rattle.mr_listing.specs.declared.pairs.Group.{Group}
-use Rattle.mr_listing.specs.Races.{before_of, first_group, group_of, groups, is_in_group, numbered_group, same_places}
-use Rattle.mr_listing.specs.Races.{same_stand}
-use Rattle.mr_listing.specs.Seen.{Seen}
+use Rattle.std.specs.List.{Contains}
+use Rattle.mr_listing.specs.Races.{is_in_group}
 
 -- ---- the same place
 

@@ -1,17 +1,8 @@
 -- Partners by rising steps, and those of one step among them.
-use Rattle.std.proofs.Common.{◌≡◌, ℕ, zero, suc, ◌<◌, ◌≤◌, Bool, true, false, arith, List, [], ◌∷◌, length, get_or, take, drop}
-use Rattle.std.proofs.Common.{refl, sym, ap, ap₂, ◌∙◌}
-use Rattle.std.proofs.lemmas.Bool.Decides.{nat_tests}
-use Rattle.std.proofs.lemmas.List.Elements.{filter_agree}
-use Rattle.std.specs.Prelude.{◌&&◌, ◌==◌, not, nat_le, nat_lt}
-use Rattle.std.proofs.Common.{cond}
-use Rattle.std.specs.List.{filter}
-use Rattle.std.specs.List.Sorted.{IsNonDecreasingBy, IsStableByKey, ties}
-use Rattle.std.specs.Ordering.{is_lt, nat_cmp}
+use Rattle.mr_listing.proofs.Common.{◌≡◌, ℕ, zero, suc, ◌<◌, ◌≤◌, Bool, true, false, arith, List, [], ◌∷◌, length, get_or, take, drop, refl, sym, ap, ap₂, ◌∙◌, nat_tests, filter_agree, ◌&&◌, ◌==◌, not, nat_le, nat_lt, cond, filter, IsNonDecreasingBy, ties, is_lt, nat_cmp, Pair, Partner, ArePartners}
+use Rattle.std.specs.List.Sorted.{IsStableByKey}
 use Rattle.std.specs.declared.cmp.Ordering.TheVariants.{Equal, Greater, Less}
-use Rattle.mr_event.specs.declared.footprint.Pair.{Pair}
-use Rattle.mr_listing.specs.declared.partners.Partner.{Partner}
-use Rattle.mr_listing.specs.Partners.{ArePartners, is_of, partners}
+use Rattle.mr_listing.specs.Partners.{is_of, partners}
 
 -- ---- what a search splits
 

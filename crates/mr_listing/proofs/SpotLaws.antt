@@ -1,10 +1,8 @@
 -- What is written of a statement is told by its first bytes.
-use Rattle.std.proofs.Common.{◌≡◌, ℕ, zero, suc, ◌<◌, ◌≤◌, Bool, List, [], ◌∷◌, length, take, refl, ap, arith, inl, inr}
-use Rattle.std.specs.Prelude.{min}
-use Rattle.std.specs.List.{prefix_len}
+use Rattle.mr_listing.proofs.Common.{◌≡◌, ℕ, zero, suc, ◌<◌, ◌≤◌, Bool, List, [], ◌∷◌, length, take, refl, ap, arith, min, prefix_len, cut_text, is_inside}
+use Rattle.std.proofs.Common.{inl, inr}
 use Rattle.std.proofs.lemmas.Bool.{cases_Bool, cases_lt, lt-ltb}
 use Rattle.std.proofs.lemmas.List.Sums.{prefix_len-le-length}
-use Rattle.mr_listing.specs.Spots.{cut_text, is_inside}
 
 -- how many pass from the front on, among the first ones
 prefix_within : {X : Type 0} (p : X → Bool) (k : ℕ) (xs : List X) → prefix_len p (take k xs) ≡ min (prefix_len p xs) k

@@ -1,14 +1,9 @@
 -- Ranges, picks and freeing, computed.
-use Rattle.std.proofs.Common.{◌≡◌, ◌-◌, ◌^◌, refl, ap, ◌∙◌, [], ◌∷◌, true, false}
-use Rattle.std.specs.Prelude.{Some, None, Ok, Err}
-use Rattle.std.specs.FinMap as fin
-use Rattle.mr_base.specs.declared.byte.AllocId.{AllocId}
-use Rattle.mr_base.specs.declared.byte.Pointer.{Pointer}
+use Rattle.mr_mem.proofs.Common.{◌≡◌, ◌-◌, ◌^◌, refl, ap, ◌∙◌, [], ◌∷◌, true, false, Some, None, Ok, Err, AllocId, Pointer, Memory, Allocation, Ranges, allocated, fresh, range_fault, ranges_of, with_range, pick_fault, freed, free_fault, refusal, unless, without_life, is_leak, IsOverlapped, Taken, lesser_of, span_at}
 use Rattle.mr_base.specs.declared.byte.Kind.TheVariants.{Heap, Stack, Function}
 use Rattle.mr_base.specs.declared.reason.Reason.TheVariants.{NoProvenance, DeadAllocation, FreeAddress, FreeKind, FreeSize, FreeAlign}
 use Rattle.mr_mem.specs.declared.fault.PickFault.TheVariants.{BadAddress, Reused}
-use Rattle.mr_mem.specs.Memory.{Memory, Allocation, Ranges, allocated, fresh, range_fault, ranges_of, with_range, pick_fault, freed, free_fault, refusal, unless, without_life, is_leak}
-use Rattle.mr_mem.specs.Spans.{IsOverlapped, Taken, lesser_of, span_at}
+use Rattle.std.specs.FinMap as fin
 use Rattle.mr_mem.proofs.Identities.{get_here}
 use Rattle.mr_mem.proofs.RangeLaws.{ranges-empty, ranges-allocated, ranges-freed}
 

@@ -1,15 +1,9 @@
 -- Identities are in a total order, and those that compare alike are one.
-use Rattle.std.proofs.Common.{◌≡◌, ◌≢◌, refl, sym, ap, ◌∙◌, cond, true, false}
-use Rattle.std.proofs.lemmas.Bool.{true≢false}
+use Rattle.mr_mem.proofs.Common.{◌≡◌, ◌≢◌, refl, sym, ap, ◌∙◌, cond, true, false, true≢false, Some, nat_cmp, is_eq, is_lt, Ordering, Less, Equal, Greater, nat_cmp_total, tied_itself, AllocId, id_cmp, Memory, Allocation}
 use Rattle.std.proofs.lemmas.List.MinMax.{ranks_by}
-use Rattle.std.specs.Prelude.{Some}
+use Rattle.std.specs.Ordering.{ordering_then, ordering_reverse}
+use Rattle.std.specs.Cmp.{IsStrictWeakOrder, IsTotalOrder, on_total, then_total}
 use Rattle.std.specs.FinMap as map
-use Rattle.std.specs.Ordering.{nat_cmp, ordering_then, ordering_reverse, is_eq, is_lt}
-use Rattle.std.specs.declared.cmp.Ordering.{Ordering}
-use Rattle.std.specs.declared.cmp.Ordering.TheVariants.{Less, Equal, Greater}
-use Rattle.std.specs.Cmp.{IsStrictWeakOrder, IsTotalOrder, on_total, then_total, nat_cmp_total, tied_itself}
-use Rattle.mr_base.specs.declared.byte.AllocId.{AllocId}
-use Rattle.mr_mem.specs.Memory.{id_cmp, Memory, Allocation}
 
 pub id_total : IsTotalOrder id_cmp
 id_total = then_total (on_total (λ (i : AllocId). i.thread) nat_cmp_total) (on_total (λ (i : AllocId). i.count) nat_cmp_total)

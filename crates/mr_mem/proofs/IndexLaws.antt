@@ -1,20 +1,11 @@
 -- The spans beside the memory are those of its ranges: what changes of the memory keep of that, and what it is for.
-use Rattle.std.proofs.Common.{◌≡◌, ◌≢◌, ℕ, ◌<◌, ◌⊎◌, inl, inr, refl, sym, ap, ◌∙◌, subst, arith, [], Bool, true, false, cond}
-use Rattle.std.proofs.lemmas.Bool.{true≢false, false_from_ne_true}
-use Rattle.std.proofs.lemmas.Option.{none-some, same_Some}
-use Rattle.std.specs.Prelude.{Option, Some, None, Result, Ok, Err, OnErr, OnOk, IsSomeAnd}
-use Rattle.std.specs.FinMap as fin
-use Rattle.std.specs.FinMap.Entries.{find, find-put, put}
-use Rattle.std.specs.Cmp.{tied_itself}
-use Rattle.std.specs.Ordering.{is_eq, is_lt}
-use Rattle.std.specs.declared.cmp.Ordering.{Ordering}
-use Rattle.std.specs.declared.cmp.Ordering.TheVariants.{Less, Equal, Greater}
-use Rattle.mr_base.specs.Pairs.{is_meeting}
-use Rattle.mr_base.specs.declared.byte.AllocId.{AllocId}
+use Rattle.mr_mem.proofs.Common.{◌≡◌, ◌≢◌, ℕ, ◌<◌, ◌⊎◌, inl, inr, refl, sym, ap, ◌∙◌, subst, arith, [], Bool, true, false, cond, true≢false, false_from_ne_true, none-some, same_Some, Option, Some, None, Result, Ok, Err, OnErr, IsSomeAnd, find, put, tied_itself, is_eq, is_lt, Ordering, Less, Equal, Greater, is_meeting, AllocId, Span, Allocation, Memory, Range, Ranges, first_overlapped, id_cmp, pick_fault, range_fault, ranges_of, without_life, IsFree, IsLeast, IsOverlapped, Puts, Taken, span_at}
+use Rattle.std.specs.Prelude.{OnOk}
+use Rattle.std.specs.FinMap.Entries.{find-put}
 use Rattle.mr_mem.specs.declared.fault.PickFault.TheVariants.{BadAddress}
-use Rattle.mr_mem.specs.declared.spans.Span.{Span}
-use Rattle.mr_mem.specs.Memory.{Allocation, Memory, Range, Ranges, first_overlapped, id_cmp, is_bad_address, pick_fault, range_fault, ranges_of, reused, without_life}
-use Rattle.mr_mem.specs.Spans.{AreSpansOf, IsFree, IsLeast, IsOverlapped, Puts, Taken, range_at, span_at, span_of}
+use Rattle.mr_mem.specs.Memory.{is_bad_address, reused}
+use Rattle.mr_mem.specs.Spans.{AreSpansOf, range_at, span_of}
+use Rattle.std.specs.FinMap as fin
 use Rattle.mr_mem.proofs.Identities.{id_exact, id_total}
 use Rattle.mr_mem.proofs.LeastLaws.{IsShared, first_least, least_same}
 use Rattle.mr_mem.proofs.Meetings.{AreSharing, from_meeting, meeting_from}

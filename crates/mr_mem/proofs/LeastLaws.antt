@@ -1,20 +1,6 @@
 -- The least identity with a property: there is one at most, and where it is found among ranges and among spans.
-use Rattle.std.proofs.Common.{◌≡◌, ℕ, refl, sym, ap, ◌∙◌, subst, [], ◌∷◌, Bool, true, false, cond}
-use Rattle.std.proofs.lemmas.Bool.{and_parts, true≢false}
-use Rattle.std.proofs.lemmas.Option.{none-some, same_Some}
-use Rattle.std.specs.Prelude.{Option, Some, None, IsSomeAnd, fold}
+use Rattle.mr_mem.proofs.Common.{◌≡◌, ℕ, refl, sym, ap, ◌∙◌, subst, [], ◌∷◌, Bool, true, false, cond, and_parts, true≢false, none-some, same_Some, Option, Some, None, IsSomeAnd, fold, below_all, is_sorted, find, AllByRecursion, tied_itself, is_eq, is_lt, nat_cmp, Ordering, Less, Equal, Greater, is_meeting, AllocId, Span, Range, Ranges, first_overlapped, id_cmp, IsLeast, Taken, lesser_of, span_at}
 use Rattle.std.specs.BTreeMap.{is_at}
-use Rattle.std.specs.FinMap.Entries.{below_all, is_sorted, find}
-use Rattle.std.specs.List.{AllByRecursion}
-use Rattle.std.specs.Cmp.{tied_itself}
-use Rattle.std.specs.Ordering.{is_eq, is_lt, nat_cmp}
-use Rattle.std.specs.declared.cmp.Ordering.{Ordering}
-use Rattle.std.specs.declared.cmp.Ordering.TheVariants.{Less, Equal, Greater}
-use Rattle.mr_base.specs.Pairs.{is_meeting}
-use Rattle.mr_base.specs.declared.byte.AllocId.{AllocId}
-use Rattle.mr_mem.specs.declared.spans.Span.{Span}
-use Rattle.mr_mem.specs.Memory.{Range, Ranges, first_overlapped, id_cmp}
-use Rattle.mr_mem.specs.Spans.{IsLeast, Taken, lesser_of, span_at}
 use Rattle.mr_mem.proofs.Identities.{id_exact, id_rank, id_total, is_less, none_less, not_less, turned_round}
 
 -- two properties of the same identities have one least identity

@@ -1,8 +1,7 @@
 -- When two ranges share an address.
-use Rattle.std.proofs.Common.{◌≡◌, ℕ, ◌+◌, ◌<◌, sym, ◌∙◌, true, false}
-use Rattle.std.specs.Prelude.{◌&&◌, nat_lt}
-use Rattle.std.proofs.lemmas.Bool.{and_from, and_parts, true≢false, false_from_ne_true}
-use Rattle.mr_base.specs.Pairs.{is_meeting}
+use Rattle.mr_mem.proofs.Common.{◌≡◌, ℕ, ◌+◌, ◌<◌, sym, ◌∙◌, true, false, ◌&&◌, and_parts, true≢false, false_from_ne_true, is_meeting}
+use Rattle.std.specs.Prelude.{nat_lt}
+use Rattle.std.proofs.lemmas.Bool.{and_from}
 use Rattle.mr_base.proofs.Comparisons.{lt_from, lt_test}
 
 -- both have an address, and each begins before the other ends

@@ -1,7 +1,8 @@
 -- A number with one bit set is a power of two.
-use Rattle.std.proofs.Common.{◌≡◌, ℕ, zero, suc, ◌*◌, ◌/◌, ◌%◌, ◌^◌, ◌<◌, refl, arith, true, ◌⊎◌, inl, inr}
+use Rattle.mr_mem.proofs.Common.{◌≡◌, ℕ, ◌^◌, ◌<◌, refl, arith, true, ◌⊎◌, inl, inr, ◌==◌}
+use Rattle.std.proofs.Common.{zero, suc, ◌*◌, ◌/◌, ◌%◌}
 use Rattle.std.specs.Int.Count.{ones, ones_in}
-use Rattle.std.specs.Prelude.{count_ones, ◌==◌}
+use Rattle.std.specs.Prelude.{count_ones}
 use Rattle.std.proofs.lemmas.Bool.{eqb-true}
 use Rattle.std.proofs.Math.Nat.{pow-suc}
 use Rattle.mr_mem.specs.Memory.{IsPowerOfTwo}

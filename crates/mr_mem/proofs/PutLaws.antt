@@ -1,19 +1,10 @@
 -- What a change of one allocation's bytes makes of the memory.
-use Rattle.std.proofs.Common.{◌≡◌, ℕ, Bool, true, false, cond, refl, sym, ap, ◌∙◌, List, Some, Result, Ok, Err}
-use Rattle.std.specs.Prelude.{OnErr}
-use Rattle.std.specs.Option.{option_map}
-use Rattle.std.specs.FinMap as fin
+use Rattle.mr_mem.proofs.Common.{◌≡◌, ℕ, Bool, true, false, cond, refl, sym, ap, ◌∙◌, List, Some, Result, Ok, Err, OnErr, option_map, eq_by_cmp, is_eq, Ordering, Less, Equal, Greater, AllocId, AbstractByte, Stored, Allocation, id_cmp, put_at, then_give, IsStored, allocation_of, memory_of}
 use Rattle.std.specs.Map.{lookup}
-use Rattle.std.specs.Ordering.{eq_by_cmp, is_eq}
-use Rattle.std.specs.declared.cmp.Ordering.{Ordering}
-use Rattle.std.specs.declared.cmp.Ordering.TheVariants.{Less, Equal, Greater}
-use Rattle.mr_base.specs.declared.byte.AllocId.{AllocId}
-use Rattle.mr_base.specs.declared.byte.AbstractByte.{AbstractByte}
 use Rattle.mr_mem.specs.declared.fault.Fault.{Fault}
+use Rattle.mr_mem.specs.Stored.{IsStoredIn}
+use Rattle.std.specs.FinMap as fin
 use Rattle.mr_mem.specs.declared.fault.Fault.TheVariants as fault
-use Rattle.mr_mem.specs.declared.memory.Stored.{Stored}
-use Rattle.mr_mem.specs.Memory.{Allocation, id_cmp, put_at, then_give}
-use Rattle.mr_mem.specs.Stored.{IsStored, IsStoredIn, allocation_of, memory_of}
 use Rattle.mr_mem.proofs.Identities.{id_exact, id_total}
 use Rattle.mr_mem.proofs.Views.{get_view, one_changed}
 

@@ -1,20 +1,13 @@
 -- An allocation adds its range; freeing and storing keep all ranges.
-use Rattle.std.proofs.Common.{◌≡◌, ℕ, ◌-◌, refl, sym, ap, ◌∙◌, List, [], ◌∷◌, Bool, true, false, cond, length, map}
-use Rattle.std.specs.Prelude.{Some, None, Option, ◌&&◌, OnErr, Result, Ok, Err, T}
-use Rattle.std.specs.FinMap as fin
-use Rattle.std.specs.FinMap.Entries.{put, by_order, below_all, is_sorted, find}
-use Rattle.std.specs.Ordering.{is_eq, is_lt}
-use Rattle.std.specs.declared.cmp.Ordering.{Ordering}
-use Rattle.std.specs.declared.cmp.Ordering.TheVariants.{Less, Equal, Greater}
-use Rattle.mr_base.specs.declared.byte.AbstractByte.{AbstractByte}
-use Rattle.mr_base.specs.declared.byte.AllocId.{AllocId}
+use Rattle.mr_mem.proofs.Common.{◌≡◌, ℕ, ◌-◌, refl, sym, ap, ◌∙◌, List, [], ◌∷◌, Bool, true, false, cond, length, Some, None, Option, ◌&&◌, OnErr, Result, Ok, Err, put, by_order, below_all, is_sorted, find, is_eq, is_lt, Ordering, Less, Equal, Greater, AbstractByte, AllocId, Pointer, Memory, Allocation, inside, put_at, ranges_of, then_give, with_range, allocated, fresh, id_cmp, freed, freed_of, refusal, without_life, unless, IsStored}
+use Rattle.std.proofs.Common.{map}
+use Rattle.std.specs.Prelude.{T}
 use Rattle.mr_base.specs.declared.byte.Kind.{Kind}
-use Rattle.mr_base.specs.declared.byte.Pointer.{Pointer}
 use Rattle.mr_base.specs.declared.reason.Reason.{Reason}
 use Rattle.mr_runs.specs.Ranges.{with_range_replaced}
 use Rattle.mr_mem.specs.declared.fault.Fault.{Fault}
-use Rattle.mr_mem.specs.Memory.{Memory, Allocation, inside, put_at, range_of, ranges_of, then_give, with_range, allocated, fresh, id_cmp, freed, freed_of, refusal, without_life, unless}
-use Rattle.mr_mem.specs.Stored.{IsStored}
+use Rattle.mr_mem.specs.Memory.{range_of}
+use Rattle.std.specs.FinMap as fin
 use Rattle.mr_mem.proofs.Identities.{id_total, is_less}
 use Rattle.mr_mem.proofs.Views.{no_entries}
 

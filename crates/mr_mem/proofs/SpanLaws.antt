@@ -1,30 +1,23 @@
 -- Spans that are apart: what adding and taking away one keeps, and which of them a range overlaps.
-use Rattle.std.proofs.Common.{◌≡◌, ◌≢◌, ℕ, ◌+◌, ◌-◌, ◌<◌, ◌≤◌, ◌⊎◌, inl, inr, refl, sym, ap, ◌∙◌, subst, arith, [], ◌∷◌, ◌++◌, true, false, cond}
-use Rattle.std.proofs.lemmas.Bool.{cases_eq, true≢false, false_from_ne_true}
+use Rattle.mr_mem.proofs.Common.{◌≡◌, ◌≢◌, ℕ, ◌+◌, ◌-◌, ◌<◌, ◌⊎◌, inl, inr, refl, sym, ap, ◌∙◌, subst, arith, [], ◌∷◌, true, false, cond, true≢false, false_from_ne_true, none-some, same_Some, Option, Some, None, IsSome, IsSomeAnd, fold, nat_cmp_total, AllByRecursion, is_lt, nat_cmp, Less, is_meeting, AllocId, Span, id_cmp, IsFree, IsLeast, IsOverlapped, Puts, Taken, span_at}
+use Rattle.std.proofs.Common.{◌≤◌, ◌++◌}
+use Rattle.std.proofs.lemmas.Bool.{cases_eq}
 use Rattle.std.proofs.lemmas.List.Elements.{All-weaker, recursion_from_All}
 use Rattle.std.proofs.lemmas.Map.Entries.{lookup-filter-keys}
 use Rattle.std.proofs.lemmas.Map.Keys.{ge_from_not_lt, le_from_not_gt}
 use Rattle.std.proofs.lemmas.Map.Views.{range_contains-from_IsInRange}
-use Rattle.std.proofs.lemmas.Option.{cond_some, none-some, same_Some}
-use Rattle.std.specs.Prelude.{Option, Some, None, IsSome, IsSomeAnd, fold}
+use Rattle.std.proofs.lemmas.Option.{cond_some}
 use Rattle.std.specs.BTreeMap.{BTreeMap, is_at}
 use Rattle.std.specs.BTreeMap.Range.{IsEntryInRange, IsInRange, IsRangeOf, entries_between, range_contains}
-use Rattle.std.specs.Cmp.{Equal-is, nat_cmp_is, nat_cmp_total, ranked}
+use Rattle.std.specs.Cmp.{Equal-is, nat_cmp_is, ranked}
 use Rattle.std.specs.FinMap.{nat_cmp-IsAntisymmetric}
-use Rattle.std.specs.List.{AllByRecursion}
-use Rattle.std.specs.Ordering.{is_lt, nat_cmp}
-use Rattle.std.specs.declared.cmp.Ordering.TheVariants.{Less}
 use Rattle.std.specs.declared.ops.Bound.TheVariants.{Included, Excluded, Unbounded}
 use Rattle.mr_base.proofs.Comparisons.{below_or}
-use Rattle.mr_base.specs.Pairs.{is_meeting}
-use Rattle.mr_base.specs.declared.byte.AllocId.{AllocId}
-use Rattle.mr_mem.specs.declared.spans.Span.{Span}
-use Rattle.mr_mem.specs.Memory.{id_cmp}
-use Rattle.mr_mem.specs.Spans.{AreApart, IsFree, IsLeast, IsOverlapped, IsSharedBefore, Puts, Taken, span_at}
+use Rattle.mr_mem.specs.Spans.{AreApart, IsSharedBefore}
+use Rattle.mr_runs.proofs.FindLaws.{not_greater}
 use Rattle.mr_mem.proofs.Identities.{not_less}
 use Rattle.mr_mem.proofs.LeastLaws.{fold_has, fold_keeps, fold_reaches, least_with}
 use Rattle.mr_mem.proofs.Meetings.{AreSharing, from_meeting, meeting_from, meeting-sym}
-use Rattle.mr_runs.proofs.FindLaws.{not_greater}
 
 -- ---- one span added or taken away
 

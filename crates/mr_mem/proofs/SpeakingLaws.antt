@@ -1,15 +1,12 @@
 -- Whatever memory refuses, it gives a reason that speaks of bytes.
-use Rattle.std.proofs.Common.{◌≡◌, ℕ, ◌+◌, refl, List, [], ◌∷◌, length, Bool, true, false, ◌&&◌, Option, Some, None, Result, Ok, Err}
-use Rattle.std.specs.Prelude.{◌==◌, if◌then◌else◌, nat_le}
-use Rattle.std.specs.FinMap as fin
+use Rattle.mr_mem.proofs.Common.{◌≡◌, ℕ, ◌+◌, refl, List, [], ◌∷◌, length, Bool, true, false, ◌&&◌, Option, Some, None, Result, Ok, Err, ◌==◌, AbstractByte, AllocId, Pointer, Allocation, Memory, found, free_fault, freed, freed_of, inside, put_at, refusal, then_give, unless}
+use Rattle.std.specs.Prelude.{if◌then◌else◌, nat_le}
 use Rattle.mr_base.specs.Stops.{speaks}
-use Rattle.mr_base.specs.declared.byte.AbstractByte.{AbstractByte}
-use Rattle.mr_base.specs.declared.byte.AllocId.{AllocId}
 use Rattle.mr_base.specs.declared.byte.Kind.{Kind}
-use Rattle.mr_base.specs.declared.byte.Pointer.{Pointer}
 use Rattle.mr_base.specs.declared.reason.Reason.{Reason}
 use Rattle.mr_base.specs.declared.reason.Reason.TheVariants.{DeadAllocation, FreeAddress, FreeAlign, FreeKind, FreeSize, Misaligned, NoProvenance, OutOfBounds}
-use Rattle.mr_mem.specs.Memory.{Allocation, Memory, aligned, bytes_at, checked, first_failed, found, free_fault, freed, freed_of, inside, is_multiple, kind_number, put_at, put_bytes, put_in, read, refusal, then_give, unless, written}
+use Rattle.mr_mem.specs.Memory.{aligned, bytes_at, checked, first_failed, is_multiple, kind_number, put_bytes, put_in, read, written}
+use Rattle.std.specs.FinMap as fin
 
 abbrev pub Speaks : Reason → Type 0
 Speaks r = speaks r ≡ true

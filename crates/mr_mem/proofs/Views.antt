@@ -1,20 +1,10 @@
 -- The program's map of allocations, seen as a finite map.
-use Rattle.std.proofs.Common.{◌≡◌, refl, sym, ap, ◌∙◌, List, [], ◌∷◌, Option, Bool, true, false, cond}
-use Rattle.std.specs.Prelude.{Some}
-use Rattle.std.specs.Option.{option_map}
-use Rattle.std.specs.FinMap as fin
-use Rattle.std.specs.FinMap.Entries.{put, by_order}
+use Rattle.mr_mem.proofs.Common.{◌≡◌, refl, sym, ap, ◌∙◌, List, [], ◌∷◌, Option, Bool, true, false, cond, Some, option_map, put, by_order, AllByRecursion, eq_by_cmp, Less, AllocId, Stored, Allocation, id_cmp, allocation_of, entries_of, memory_of}
 use Rattle.std.specs.Map.{lookup, keys_of}
-use Rattle.std.specs.List.{AllByRecursion}
 use Rattle.std.specs.List.Sorted.{IsStrictlySortedBy}
 use Rattle.std.specs.Cmp.{eq_by_cmp_equiv}
-use Rattle.std.specs.Ordering.{eq_by_cmp}
-use Rattle.std.specs.declared.cmp.Ordering.TheVariants.{Less}
 use Rattle.std.proofs.lemmas.List.{nil_from_length}
-use Rattle.mr_base.specs.declared.byte.AllocId.{AllocId}
-use Rattle.mr_mem.specs.declared.memory.Stored.{Stored}
-use Rattle.mr_mem.specs.Memory.{Allocation, id_cmp}
-use Rattle.mr_mem.specs.Stored.{allocation_of, entries_of, memory_of}
+use Rattle.std.specs.FinMap as fin
 use Rattle.mr_mem.proofs.Identities.{id_total, id_exact}
 
 mapped : (b : Bool) (x : Stored) (o : Option Stored) → cond b (Some (allocation_of x)) (option_map allocation_of o) ≡ option_map allocation_of (cond b (Some x) o)

@@ -1,22 +1,16 @@
 -- An entry that breaks a rule of a pick breaks some rule with fewer picks too.
-use Rattle.std.proofs.Common.{◌≡◌, ℕ, zero, suc, ◌+◌, ◌-◌, ◌<◌, ◌≤◌, refl, ap, ◌∙◌, arith, List, [], ◌∷◌, take, Bool, true, false, Option, Some, None}
-use Rattle.std.specs.Prelude.{if◌then◌else◌, slice_get}
-use Rattle.std.specs.List.{find, range_with_len}
+use Rattle.mr_next.proofs.Common.{◌≡◌, ℕ, zero, suc, ◌+◌, ◌-◌, ◌<◌, ◌≤◌, refl, ap, ◌∙◌, arith, List, [], ◌∷◌, take, Bool, false, Option, Some, None, if◌then◌else◌, slice_get, find, range_with_len, Entry, Fault, State, needs, Look, Own, thread_step, program_fault, is_of_pick}
+use Rattle.std.proofs.Common.{true}
 use Rattle.std.proofs.lemmas.Option.{same_Some}
 use Rattle.mr_base.specs.declared.thread.Status.{Status}
 use Rattle.mr_step.specs.MemMemory.{Ranges, range_fault, ranges_of, with_range}
 use Rattle.mr_sched.specs.declared.schedule.Ask.{Ask}
 use Rattle.mr_sched.specs.declared.schedule.Ask.TheVariants.{Address, Waiter}
-use Rattle.mr_sched.specs.declared.schedule.Entry.{Entry}
-use Rattle.mr_sched.specs.declared.rule.ScheduleRule.TheVariants as rule
 use Rattle.mr_step.specs.SyncTables.{on_lock}
-use Rattle.mr_step.specs.PlanLegal.{Fault, address_fault, count_of, creation_fault, else_fault, fault, needs_fault, picks_fault, state_fault, status_fault}
-use Rattle.mr_step.specs.PlanMachine.{State, needs}
+use Rattle.mr_step.specs.PlanLegal.{address_fault, count_of, creation_fault, else_fault, fault, needs_fault, picks_fault, state_fault, status_fault}
 use Rattle.mr_step.specs.PlanRuns.{Config, entry_fault, fault_in, is_running}
-use Rattle.mr_step.specs.FrameFrames.{Look}
-use Rattle.mr_step.specs.ThreadSteps.{Own, thread_step}
-use Rattle.mr_step.specs.StartRuns.{program_fault}
-use Rattle.mr_next.specs.Culprits.{is_of_pick, with_picks}
+use Rattle.mr_next.specs.Culprits.{with_picks}
+use Rattle.mr_sched.specs.declared.rule.ScheduleRule.TheVariants as rule
 
 -- there is a fault
 pub record IsSome (o : Option Fault) : Type 0 where

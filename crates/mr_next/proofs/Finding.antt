@@ -1,6 +1,5 @@
 -- The first of some numbers that passes a test.
-use Rattle.std.proofs.Common.{◌≡◌, ℕ, suc, ◌+◌, ◌-◌, ◌<◌, ◌∙◌, ap, arith, Bool, false, refl}
-use Rattle.std.specs.List.{find, range_with_len}
+use Rattle.mr_next.proofs.Common.{◌≡◌, ℕ, suc, ◌+◌, ◌-◌, ◌<◌, ◌∙◌, ap, arith, Bool, false, refl, find, range_with_len}
 
 -- where one doesn't, it is sought among those behind it
 pub find_behind : (f : ℕ → Bool) (at n : ℕ) → at < n → f at ≡ false

@@ -1,4 +1,5 @@
 pub mod Appended
+mod Common
 pub mod CulpritLaws
 pub mod Finding
 pub mod ProspectLaws

@@ -1,12 +1,8 @@
 -- What threads would do next, one after the other.
-use Rattle.std.proofs.Common.{◌≡◌, ℕ, ◌+◌, refl, sym, ap, ◌∙◌, [], ◌∷◌, ◌++◌, length, map, Option, Some, None, zero-add}
-use Rattle.std.specs.List.{range_with_len}
-use Rattle.std.proofs.lemmas.List.{map-append}
+use Rattle.mr_next.proofs.Common.{◌≡◌, ℕ, ◌+◌, refl, sym, ap, ◌∙◌, [], ◌∷◌, ◌++◌, length, map, Option, Some, None, range_with_len, map-append, State, Look, Own, prospect_in}
+use Rattle.std.proofs.Common.{zero-add}
 use Rattle.mr_step.proofs.ExchangeLists.{range_with_len-parts}
-use Rattle.mr_step.specs.PlanMachine.{State}
-use Rattle.mr_step.specs.FrameFrames.{Look}
-use Rattle.mr_step.specs.ThreadSteps.{Own}
-use Rattle.mr_next.specs.Prospects.{prospect_in, prospects_in}
+use Rattle.mr_next.specs.Prospects.{prospects_in}
 
 -- one number more
 pub range_more : (n : ℕ) → range_with_len 0 (n + 1) ≡ range_with_len 0 n ++ n ∷ []

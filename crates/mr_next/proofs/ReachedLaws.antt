@@ -1,25 +1,18 @@
 -- Entries that are taken up to the first that breaks a rule.
-use Rattle.std.proofs.Common.{◌≡◌, ℕ, zero, suc, ◌+◌, ◌-◌, ◌<◌, refl, sym, ap, ◌∙◌, subst, arith, List, [], ◌∷◌, ◌++◌, false, drop, get_or, length, take, Option, Some, None, Ok}
-use Rattle.std.specs.Prelude.{slice_get}
+use Rattle.mr_next.proofs.Common.{◌≡◌, ℕ, zero, suc, ◌+◌, ◌-◌, ◌<◌, refl, sym, ap, ◌∙◌, subst, arith, List, [], ◌∷◌, ◌++◌, false, get_or, length, take, Option, Some, None, Ok, slice_get, take_more, Entry, Fault, Look, Own, thread_step, program_fault, fault_of, Standing, culprit_of}
+use Rattle.std.proofs.Common.{drop}
 use Rattle.std.proofs.lemmas.Option.{same_Some}
-use Rattle.std.proofs.lemmas.List.{take_more}
 use Rattle.mr_ast.specs.declared.program.Program.{Program}
 use Rattle.mr_run.specs.EventFootprint.{Footprint}
-use Rattle.mr_sched.specs.declared.schedule.Entry.{Entry}
 use Rattle.mr_sched.specs.declared.schedule.Schedule.{Schedule}
-use Rattle.mr_step.specs.PlanLegal.{Fault}
 use Rattle.mr_step.specs.PlanRuns.{AreLegal, Config, after}
-use Rattle.mr_step.specs.FrameFrames.{Look}
-use Rattle.mr_step.specs.ThreadSteps.{Own, thread_step}
-use Rattle.mr_step.specs.StartRuns.{PlacedFault, at_line, entries_fault, program_fault, program_step, run_of, schedule_fault}
+use Rattle.mr_step.specs.StartRuns.{PlacedFault, at_line, entries_fault, program_step, run_of, schedule_fault}
 use Rattle.mr_step.specs.StartStart.{look_of, start_config}
-use Rattle.mr_step.specs.Answers.{StartAnswer, fault_of}
-use Rattle.mr_step.specs.Standing.{Standing}
+use Rattle.mr_step.specs.Answers.{StartAnswer}
 use Rattle.mr_run.specs.Runs.{AreTaken, IsMade, foot_by}
 use Rattle.mr_run.proofs.RunLaws.{IsUnderWay, all_taken, breaks_here, goes_on, sets_out}
 use Rattle.mr_auto.proofs.DrawnSoFar.{after_more}
 use Rattle.mr_run.proofs.WitnessLists.{legal_append}
-use Rattle.mr_next.specs.Culprits.{culprit_of}
 use Rattle.mr_next.specs.Reached.{GoesTo, IsReached, in_front, placed_of}
 use Rattle.mr_next.specs.declared.broken.Broken.{Broken}
 use Rattle.mr_next.specs.declared.reaching.Reached.{Reached}

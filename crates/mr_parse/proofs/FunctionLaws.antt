@@ -1,11 +1,11 @@
 -- A function is read behind its name.
-use Rattle.std.proofs.Common.{◌≡◌, ℕ, List, Ok, refl, ◌∙◌, codes, nat_le}
+use Rattle.mr_parse.proofs.Common.{◌≡◌, ℕ, List, Ok, refl, ◌∙◌, codes, Word, Scope, body_form, function_form, expected, read}
+use Rattle.std.proofs.Common.{nat_le}
 use Rattle.mr_ast.specs.declared.words.Role.TheVariants.{DefinesFunction}
-use Rattle.mr_ast.specs.Forms.{Word, Then, In}
-use Rattle.mr_ast.specs.Scope.{Scope}
+use Rattle.mr_ast.specs.Forms.{Then, In}
 use Rattle.mr_ast.specs.Writing.{judged_name, name_form}
-use Rattle.mr_ast.specs.ProgramGrammar.{body_form, function_form, inside_function, with_name}
-use Rattle.mr_grammar.specs.Reading.{expected, first_at, read}
+use Rattle.mr_ast.specs.ProgramGrammar.{inside_function, with_name}
+use Rattle.mr_grammar.specs.Reading.{first_at}
 use Rattle.mr_parse.specs.Views.{named}
 use Rattle.mr_parse.proofs.Walk.LoopLaws.{behind_word}
 

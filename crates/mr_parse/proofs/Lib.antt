@@ -1,3 +1,4 @@
+mod Common
 pub mod FunctionLaws
 pub mod ParseLaws
 pub mod Walk

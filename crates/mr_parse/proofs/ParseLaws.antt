@@ -1,16 +1,13 @@
 -- What parsing answers, by what it computes.
-use Rattle.std.proofs.Common.{◌≡◌, ℕ, List, Result, Ok, Err, ap, sym, ◌∙◌}
+use Rattle.mr_parse.proofs.Common.{◌≡◌, ℕ, List, Result, Ok, Err, ap, sym, ◌∙◌, Word, Scope, Stop, program_in, whole_of, words_of}
 use Rattle.std.specs.Prelude.{IfOk, IsErrOf}
 use Rattle.std.specs.Str.{IsAscii}
 use Rattle.mr_ast.specs.declared.program.Program.{Program}
-use Rattle.mr_ast.specs.Forms.{Word}
 use Rattle.mr_ast.specs.ProgramGrammar.{ProgramBody}
-use Rattle.mr_ast.specs.Scope.{Scope}
 use Rattle.mr_ast.specs.Shaped.{Shaped}
 use Rattle.mr_lex.specs.declared.token.TextFault.{TextFault}
 use Rattle.mr_lex.specs.Reading.{lexed}
 use Rattle.mr_lex.specs.Tokens.{Lexeme}
-use Rattle.mr_words.specs.declared.fault.Stop.{Stop}
 use Rattle.mr_parse.specs.declared.fault.ParseFault.{ParseFault}
 use Rattle.mr_parse.specs.declared.fault.ParseFault.TheVariants.{Text, Memory}
 use Rattle.mr_grammar.specs.Denotes.{Denotes, definitions_in}
@@ -19,9 +16,8 @@ use Rattle.mr_grammar.specs.Faults.{FirstFault}
 use Rattle.mr_words.specs.TextFaults.{fault_at}
 use Rattle.mr_parse.specs.Gives.{ParseGives}
 use Rattle.mr_words.specs.Naming.{IsSmall}
-use Rattle.mr_grammar.specs.Parsing.{body_of, parsed, program_in, whole_of}
+use Rattle.mr_grammar.specs.Parsing.{body_of, parsed}
 use Rattle.mr_words.specs.Brackets.{told}
-use Rattle.mr_words.specs.Places.{words_of}
 use Rattle.mr_grammar.proofs.Stops.BodyLaws.{body_writes}
 use Rattle.mr_grammar.proofs.ParsingLaws.{denotes_parsed, fault_parsed, parsed_denotes, parsed_fault, of_program, of_tokens}
 use Rattle.mr_grammar.proofs.Shape.ShapedLaws.{denoted_is_shaped}

@@ -1,22 +1,12 @@
 -- What arrows are, and where paths of lanes and arrows lead.
-use Rattle.std.proofs.Common.{◌≡◌, ◌≢◌, ℕ, zero, suc, ◌+◌, ◌-◌, ◌<◌, ◌≤◌, inl, inr, Bool, true, false}
-use Rattle.std.proofs.Common.{List, refl, sym, subst, ◌∙◌, arith}
+use Rattle.mr_picture.proofs.Common.{◌≡◌, ℕ, zero, suc, ◌+◌, ◌-◌, ◌<◌, ◌≤◌, inl, inr, Bool, true, false, List, refl, sym, subst, ◌∙◌, arith, and_from, and_parts, cases_Bool, eq-eqb, false≢true, ne_eqb, ◌==◌, ◌&&◌, not, Contains, list_any, range_with_len, Footprint, Pair, Edge, HappensBefore, thread_at, happens_before, HappensBefore-before, any_range_at, happens_before_is, Span, arrow_from, arrows, arrows_to, lies_between, steps_in}
+use Rattle.std.proofs.Common.{◌≢◌}
 use native.Mathlib.Decide.{ℕ_discrete}
-use Rattle.std.proofs.lemmas.Bool.{and_from, and_parts, cases_Bool, eq-eqb, false≢true, ne_eqb}
-use Rattle.std.specs.Prelude.{◌==◌, ◌&&◌, not}
-use Rattle.std.specs.List.{Contains, list_any, range_with_len}
-use Rattle.mr_event.specs.Footprint.{Footprint}
-use Rattle.mr_event.specs.declared.footprint.Pair.{Pair}
-use Rattle.mr_event.specs.Order.{Edge, HappensBefore, thread_at}
 use Rattle.mr_event.specs.Order.Edge.{in_thread}
 use Rattle.mr_event.specs.Order.HappensBefore.{edge, chain}
-use Rattle.mr_event.specs.Predicted.{happens_before}
-use Rattle.mr_event.proofs.Ordered.{HappensBefore-before}
-use Rattle.mr_event.proofs.Tests.{any_range, any_range_at, happens_before_is, not_false}
-use Rattle.mr_picture.specs.declared.span.Span.{Span}
-use Rattle.mr_picture.specs.Arrows.{Joined, arrow_from, arrows, arrows_to, inside, is_arrow, lies_between}
+use Rattle.mr_event.proofs.Tests.{any_range, not_false}
+use Rattle.mr_picture.specs.Arrows.{Joined, inside, is_arrow}
 use Rattle.mr_picture.specs.Arrows.Joined.{lane, arrow, behind}
-use Rattle.mr_picture.specs.Span.{steps_in}
 use Rattle.mr_picture.proofs.Members.{from_flat, from_range, into_flat, into_range, passed, tested}
 
 -- ---- what an arrow is

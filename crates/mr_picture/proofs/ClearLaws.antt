@@ -1,27 +1,13 @@
 -- No arrow and no line of a race comes near the mark of a step that isn't one of its two.
-use Rattle.std.proofs.Common.{◌≡◌, ℕ, ◌+◌, ◌-◌, ◌*◌, ◌<◌, ◌≤◌, ◌⊎◌, inl, inr, Bool, true, false, List}
-use Rattle.std.proofs.Common.{length, refl, sym, subst, arith}
+use Rattle.mr_picture.proofs.Common.{◌≡◌, ℕ, ◌+◌, ◌-◌, ◌*◌, ◌<◌, ◌≤◌, ◌⊎◌, inl, inr, Bool, true, false, List, length, refl, sym, subst, arith, if◌then◌else◌, nat_lt, Contains, thread_at, Pair, Drawn, Span, arrows, row_y, arrow_between, arrow_mark, beside, corner_of, foot_place, is_wake, race_between, race_mark, Sketch, done_in, near_in, scene_of, holds_race, is_in, races_in, and_parts, Point, Bend}
 use Rattle.std.proofs.Math.Nat.{eq-or-lt_of_le}
 use Rattle.std.proofs.lemmas.Bool.{cases_lt}
-use Rattle.std.specs.Prelude.{count_by, if◌then◌else◌, nat_lt}
-use Rattle.std.specs.List.{Contains}
-use Rattle.mr_event.specs.Order.{thread_at}
-use Rattle.mr_event.specs.declared.footprint.Pair.{Pair}
-use Rattle.mr_picture.specs.declared.scene.Drawn.{Drawn}
-use Rattle.mr_picture.specs.declared.span.Span.{Span}
-use Rattle.mr_picture.specs.Arrows.{arrows}
+use Rattle.std.specs.Prelude.{count_by}
 use Rattle.mr_picture.specs.Clear.{IsApart, IsClearOf}
-use Rattle.mr_picture.specs.Grid.{row_y}
-use Rattle.mr_picture.specs.Links.{arrow_between, arrow_mark, beside, corner_of, foot_place, is_wake, race_between, race_mark}
-use Rattle.mr_picture.specs.Scene.{Sketch, done_in, near_in, scene_of}
-use Rattle.mr_picture.specs.Span.{holds_race, is_in, races_in}
 use Rattle.mr_picture.specs.Steps.{at_step}
 use Rattle.mr_picture.proofs.ArrowLaws.{arrow_is}
 use Rattle.mr_picture.proofs.Room.{in_part}
 use Rattle.mr_picture.proofs.Within.{from_filter}
-use Rattle.std.proofs.lemmas.Bool.{and_parts}
-use Rattle.mr_svg.specs.declared.shape.Point.{Point}
-use Rattle.mr_svg.specs.declared.shape.Shape.TheVariants.{Bend}
 
 -- ---- numbers
 

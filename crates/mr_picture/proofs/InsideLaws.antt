@@ -1,55 +1,31 @@
 -- Each mark of a picture lies inside it.
-use Rattle.std.proofs.Common.{◌≡◌, ℕ, zero, suc, ◌+◌, ◌-◌, ◌*◌, ◌<◌, ◌≤◌, ◌^◌, Bool, true, false, List, [], ◌∷◌, ◌++◌, length}
-use Rattle.std.proofs.Common.{map, refl, ap, arith, lit≤}
-use Rattle.std.proofs.lemmas.Bool.{and_parts}
+use Rattle.mr_picture.proofs.Common.{◌≡◌, ℕ, zero, suc, ◌+◌, ◌-◌, ◌*◌, ◌<◌, ◌≤◌, ◌^◌, Bool, true, false, List, [], ◌∷◌, ◌++◌, length, map, refl, ap, arith, and_parts, length-append, All-weaker, ◌==◌, All, Option, None, Some, codes, decimal, flat_map, if◌then◌else◌, nat_le, nat_lt, slice_get, Contains, filter, range_with_len, Pair, thread_at, Seen, Span, arrows, holds_race, is_in, races_in, steps_in, left_out, witness_steps, Point, Diamond, Dot, Square, Words, Mark, Drawn, column_marks, column_name, column_place, column_race, kept_mark, kept_marks, kept_number, left_mark, left_marks, left_number, rows_marks, behind_line, first_line, head_marks, line_marks, part_mark, tail_mark, title_mark, row_y, rows_end, tail_count, ends, first_that, lane_mark, lane_marks, name_mark, starts, arrow_entry, entry, legend_marks, link_entries, middle, race_entry, sample, step_entries, words_mark, arrow_mark, foot_place, is_wake, race_mark, drawn_steps, sketch_of, round_marks, Scene, Sketch, done_in, race_in, scene_of, takes_one, did_mark, mark_of, number_mark, row_marks, stand_mark, step_mark, step_marks, cut_at}
+use Rattle.std.proofs.Common.{lit≤}
 use Rattle.std.proofs.lemmas.Fmt.{length-decimal-le}
-use Rattle.std.proofs.lemmas.List.{length-append}
-use Rattle.std.proofs.lemmas.List.Elements.{All-append, All-cons, All-contains, All-filter, All-head, All-map, All-nil, All-tail}
-use Rattle.std.proofs.lemmas.List.Elements.{All-weaker, filter_passes}
+use Rattle.std.proofs.lemmas.List.Elements.{All-append, All-cons, All-contains, All-filter, All-head, All-map, All-nil, All-tail, filter_passes}
 use Rattle.std.proofs.lemmas.List.Sums.{count_by-le-length}
-use Rattle.std.specs.Prelude.{◌==◌, ◌%◌, All, IfSome, Option, None, Some, codes, decimal, flat_map, if◌then◌else◌, nat_le, nat_lt}
-use Rattle.std.specs.Prelude.{slice_get}
-use Rattle.std.specs.List.{Contains, filter, range_with_len}
-use Rattle.mr_event.specs.declared.footprint.Pair.{Pair}
-use Rattle.mr_event.specs.Order.{thread_at}
+use Rattle.std.specs.Prelude.{◌%◌, IfSome}
 use Rattle.mr_labels.specs.declared.step.ToldStep.{ToldStep}
-use Rattle.mr_listing.specs.Seen.{Seen}
-use Rattle.mr_picture.specs.declared.span.Span.{Span}
-use Rattle.mr_picture.specs.Arrows.{arrows}
-use Rattle.mr_picture.specs.Span.{holds_race, is_in, races_in, steps_in}
-use Rattle.mr_picture.specs.Witness.{left_out, witness_steps}
+use Rattle.mr_svg.specs.declared.shape.Shape.{Shape}
+use Rattle.mr_svg.specs.declared.shape.Sign.{Sign}
+use Rattle.mr_picture.specs.declared.steps.Part.{Part}
+use Rattle.mr_picture.specs.Column.{column_of, is_of_race, kept_shape, number_place}
+use Rattle.mr_picture.specs.Ends.{part_text, title_text}
+use Rattle.mr_picture.specs.Grid.{column_width, column_x, height, lane_x, legend_y, place_of, tail_y, text_x, width}
+use Rattle.mr_picture.specs.Inside.{IsInside, IsLineInside, IsPointInside, IsRoundInside, IsShapeInside}
+use Rattle.mr_picture.specs.Lanes.{row_or, short_name}
+use Rattle.mr_picture.specs.Legend.{left_end, linked, right_end}
+use Rattle.mr_picture.specs.Drawn.{asked_scene, drawn_of, is_drawn}
+use Rattle.mr_picture.specs.Picture.{marks}
+use Rattle.mr_picture.specs.Scene.{begin_at, chosen, clipped}
+use Rattle.mr_picture.specs.Steps.{did_line, part_of, part_shape, row_mark}
+use Rattle.mr_picture.specs.Texts.{cut}
 use Rattle.mr_picture.proofs.ArrowLaws.{arrow_is}
 use Rattle.mr_picture.proofs.Members.{from_flat, from_range}
 use Rattle.mr_picture.proofs.Counts.{rows_few}
 use Rattle.mr_picture.proofs.Within.{each, from_filter, left_below, witness_below}
-use Rattle.mr_svg.specs.declared.shape.Point.{Point}
-use Rattle.mr_svg.specs.declared.shape.Shape.{Shape}
-use Rattle.mr_svg.specs.declared.shape.Shape.TheVariants.{Diamond, Dot, Square, Words}
-use Rattle.mr_svg.specs.declared.shape.Sign.{Sign}
 use Rattle.mr_svg.specs.declared.shape.Sign.TheVariants as sign
-use Rattle.mr_svg.specs.Svg.{Mark}
-use Rattle.mr_picture.specs.declared.scene.Drawn.{Drawn}
-use Rattle.mr_picture.specs.declared.steps.Part.{Part}
 use Rattle.mr_picture.specs.declared.steps.Part.TheVariants as part
-use Rattle.mr_picture.specs.Column.{column_marks, column_name, column_of, column_place, column_race, is_of_race, kept_mark}
-use Rattle.mr_picture.specs.Column.{kept_marks, kept_number, kept_shape, left_mark, left_marks, left_number, number_place}
-use Rattle.mr_picture.specs.Column.{rows_marks}
-use Rattle.mr_picture.specs.Ends.{behind_line, first_line, head_marks, line_marks, part_mark, part_text, tail_mark, title_mark}
-use Rattle.mr_picture.specs.Ends.{title_text}
-use Rattle.mr_picture.specs.Grid.{column_width, column_x, height, lane_x, legend_y, place_of, row_y, rows_end, tail_count}
-use Rattle.mr_picture.specs.Grid.{tail_y, text_x, width}
-use Rattle.mr_picture.specs.Inside.{IsInside, IsLineInside, IsPointInside, IsRoundInside, IsShapeInside}
-use Rattle.mr_picture.specs.Lanes.{ends, first_that, lane_mark, lane_marks, name_mark, row_or, starts}
-use Rattle.mr_picture.specs.Lanes.{short_name}
-use Rattle.mr_picture.specs.Legend.{arrow_entry, entry, left_end, legend_marks, link_entries, linked, middle, race_entry}
-use Rattle.mr_picture.specs.Legend.{right_end, sample, step_entries, words_mark}
-use Rattle.mr_picture.specs.Links.{arrow_mark, foot_place, is_wake, race_mark}
-use Rattle.mr_picture.specs.Drawn.{asked_scene, drawn_of, drawn_steps, is_drawn, sketch_of}
-use Rattle.mr_picture.specs.Picture.{marks, round_marks}
-use Rattle.mr_picture.specs.Scene.{Scene, Sketch, begin_at, chosen, clipped, done_in, race_in, scene_of, takes_one}
-use Rattle.mr_picture.specs.Steps.{did_line, did_mark, mark_of, number_mark, part_of, part_shape, row_mark, row_marks}
-use Rattle.mr_picture.specs.Steps.{stand_mark, step_mark, step_marks}
-use Rattle.mr_picture.specs.Texts.{cut, cut_at}
 use Rattle.mr_picture.proofs.Room.{IsPlace, arrow_inside, cut_short, in_part, race_inside, round_inside}
 
 -- ---- the scene

@@ -1,5 +1,6 @@
 pub mod ArrowLaws
 pub mod ClearLaws
+mod Common
 pub mod Counts
 pub mod InsideLaws
 pub mod LinkLaws

@@ -1,14 +1,11 @@
 -- Whose order an arrow is of.
-use Rattle.std.proofs.Common.{◌≡◌, ◌<◌, ◌↔◌, Bool, true, false, IsTrue, refl}
-use Rattle.std.proofs.lemmas.Bool.{false≢true}
-use Rattle.mr_event.specs.declared.footprint.Pair.{Pair}
+use Rattle.mr_picture.proofs.Common.{◌≡◌, ◌<◌, ◌↔◌, Bool, true, false, IsTrue, refl, false≢true, Pair, arrow_mark, is_wake, Scene}
 use Rattle.mr_rust_order.specs.Order.{HappensBefore}
 use Rattle.mr_rust_order.specs.Order.Edge.{started}
 use Rattle.mr_rust_order.specs.Order.HappensBefore.{edge}
 use Rattle.mr_rust_order.proofs.TestLaws.{happens_before_is}
+use Rattle.mr_picture.specs.Links.{arrow_sign, is_rusts}
 use Rattle.mr_svg.specs.declared.shape.Sign.TheVariants as sign
-use Rattle.mr_picture.specs.Links.{arrow_mark, arrow_sign, is_rusts, is_wake}
-use Rattle.mr_picture.specs.Scene.{Scene}
 
 told : (woken rusts : Bool) (P : Type 0) → (woken ≡ true → P) → IsTrue rusts ↔ P
     → (arrow_sign woken rusts ≡ sign.MachineOrder) ↔ ¬ P

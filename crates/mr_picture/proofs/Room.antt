@@ -1,17 +1,7 @@
 -- What has room in a picture, by numbers alone.
-use Rattle.std.proofs.Common.{◌≡◌, ℕ, ◌+◌, ◌-◌, ◌<◌, ◌≤◌, Bool, true, false, List, [], ◌++◌, length}
-use Rattle.std.proofs.Common.{take, refl, arith}
-use Rattle.std.proofs.lemmas.List.{length-append, length-take}
-use Rattle.std.proofs.lemmas.Bool.{and_parts}
-use Rattle.std.proofs.lemmas.Bool.Decides.{nat_tests}
-use Rattle.std.specs.Prelude.{nat_le, nat_lt, codes, if◌then◌else◌}
-use Rattle.mr_picture.specs.declared.span.Span.{Span}
-use Rattle.mr_picture.specs.Span.{is_in}
-use Rattle.mr_svg.specs.declared.shape.Point.{Point}
-use Rattle.mr_svg.specs.declared.shape.Shape.TheVariants.{Bend}
+use Rattle.mr_picture.proofs.Common.{◌≡◌, ℕ, ◌+◌, ◌-◌, ◌<◌, ◌≤◌, Bool, true, false, List, [], ◌++◌, length, take, refl, arith, length-append, and_parts, nat_tests, nat_le, nat_lt, codes, if◌then◌else◌, Span, is_in, Point, Bend, arrow_between, beside, corner_of, race_between, cut_at}
+use Rattle.std.proofs.lemmas.List.{length-take}
 use Rattle.mr_picture.specs.Inside.{IsPointInside, IsRoundInside, IsShapeInside}
-use Rattle.mr_picture.specs.Links.{arrow_between, beside, corner_of, race_between}
-use Rattle.mr_picture.specs.Texts.{cut_at}
 
 -- so far from a lane is no further right than that
 pub beside_le : (far x other : ℕ) → beside far x other ≤ x + far

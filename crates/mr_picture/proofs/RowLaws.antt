@@ -1,12 +1,7 @@
 -- Marks of steps, one a row; and lines of a text.
-use Rattle.std.proofs.Common.{◌≡◌, ℕ, suc, ◌+◌, ◌-◌, ◌<◌, List, [], ◌∷◌, ◌++◌, length, get_or, drop, sym, ap}
-use Rattle.std.proofs.Common.{◌∙◌, append_assoc, append-nil, arith, drop-cons}
+use Rattle.mr_picture.proofs.Common.{◌≡◌, ℕ, suc, ◌+◌, ◌-◌, ◌<◌, List, [], ◌∷◌, ◌++◌, length, get_or, drop, sym, ap, ◌∙◌, append_assoc, append-nil, arith, flat_map, Mark, mark_text, rows_marks, behind_line, first_line, line_marks, tail_mark, Scene}
+use Rattle.std.proofs.Common.{drop-cons}
 use Rattle.std.proofs.lemmas.Grind.{flat_map-append}
-use Rattle.std.specs.Prelude.{flat_map}
-use Rattle.mr_svg.specs.Svg.{Mark, mark_text}
-use Rattle.mr_picture.specs.Column.{rows_marks}
-use Rattle.mr_picture.specs.Ends.{behind_line, first_line, line_marks, tail_mark}
-use Rattle.mr_picture.specs.Scene.{Scene}
 
 -- a piece behind others, of which the rest is known
 behind_rest : (now next piece rest : List ℕ) → next ≡ now ++ piece → next ++ rest ≡ now ++ (piece ++ rest)

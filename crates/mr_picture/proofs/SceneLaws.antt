@@ -1,16 +1,7 @@
 -- A scene of a run is small.
-use Rattle.std.proofs.Common.{◌≡◌, ◌<◌, ◌≤◌, ◌^◌, true, List, length, arith}
-use Rattle.std.proofs.lemmas.Bool.{and_parts}
-use Rattle.std.proofs.lemmas.List.Elements.{All-weaker}
+use Rattle.mr_picture.proofs.Common.{◌≡◌, ◌<◌, ◌≤◌, ◌^◌, true, List, length, arith, and_parts, All-weaker, All, slice_get, Drawn, Span, holds_race, is_in, Seen, drawn_steps, IsRace, IsSmall, Sketch, done_in, race_in, scene_of, takes_one}
 use Rattle.std.proofs.lemmas.Option.{IfSome_then}
-use Rattle.std.specs.Prelude.{All, slice_get}
-use Rattle.mr_picture.specs.declared.scene.Drawn.{Drawn}
-use Rattle.mr_picture.specs.declared.span.Span.{Span}
-use Rattle.mr_picture.specs.Span.{holds_race, is_in}
 use Rattle.mr_picture.proofs.Counts.{numbers_few}
-use Rattle.mr_listing.specs.Seen.{Seen}
-use Rattle.mr_picture.specs.Drawn.{drawn_steps}
-use Rattle.mr_picture.specs.Scene.{IsRace, IsSmall, Sketch, done_in, race_in, scene_of, takes_one}
 use Rattle.mr_picture.proofs.InsideLaws.{race_held, steps_are}
 use Rattle.mr_picture.proofs.Room.{in_part}
 

@@ -1,11 +1,6 @@
 -- What loops over numbers keep.
-use Rattle.std.proofs.Common.{◌≡◌, ℕ, zero, suc, ◌+◌, ◌-◌, ◌<◌, ◌≤◌, Bool, true, false, IsTrue, ◌↔◌, List, [], ◌∷◌, ◌++◌}
-use Rattle.std.proofs.Common.{refl, sym, ap, ◌∙◌, append_assoc, append-nil, arith}
-use Rattle.std.proofs.lemmas.List.Elements.{filter-append}
+use Rattle.mr_picture.proofs.Common.{◌≡◌, ℕ, zero, suc, ◌+◌, ◌-◌, ◌<◌, ◌≤◌, Bool, true, false, IsTrue, ◌↔◌, List, [], ◌∷◌, ◌++◌, refl, sym, ap, ◌∙◌, append_assoc, append-nil, arith, filter-append, ◌||◌, flat_map, if◌then◌else◌, max, filter, list_any, range_with_len, any_range_at}
 use Rattle.std.proofs.lemmas.List.Folds.{list_any-append}
-use Rattle.std.specs.Prelude.{◌||◌, flat_map, if◌then◌else◌, max}
-use Rattle.std.specs.List.{filter, list_any, range_with_len}
-use Rattle.mr_event.proofs.Tests.{any_range_at}
 
 -- one number more
 pub one_more : (a k : ℕ) → a ≤ k → range_with_len a (k + 1 - a) ≡ range_with_len a (k - a) ++ k ∷ []

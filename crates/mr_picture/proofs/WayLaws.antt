@@ -1,16 +1,14 @@
 -- The way from a step to a later one leads there by edges.
-use Rattle.std.proofs.Common.{◌≡◌, ◌⊎◌, ⊎_elim, inl, inr, ℕ, zero, suc, ◌+◌, ◌-◌, ◌<◌, ◌≤◌, Bool, true, false, true≢false, List, [], ◌∷◌, refl, sym, ap, subst, ◌∙◌, arith}
-use Rattle.std.proofs.Common.{Option, Some, None}
+use Rattle.mr_picture.proofs.Common.{◌≡◌, ◌⊎◌, inl, inr, ℕ, zero, suc, ◌+◌, ◌-◌, ◌<◌, ◌≤◌, Bool, true, false, List, [], ◌∷◌, refl, sym, ap, subst, ◌∙◌, arith, Option, Some, None, ◌&&◌, ◌||◌, ◌==◌, if◌then◌else◌, and_from, and_parts, eq-eqb, eqb-true, ne_eqb, Footprint, Edge, HappensBefore, greatest_below, happens_before, HappensBefore-before, happens_before_is, leads, next_step, way, way_within}
+use Rattle.std.proofs.Common.{⊎_elim, true≢false}
 use native.Mathlib.Decide.{ℕ_discrete}
-use Rattle.std.specs.Prelude.{◌&&◌, ◌||◌, ◌==◌, cond, if◌then◌else◌}
-use Rattle.std.proofs.lemmas.Bool.{and_from, and_parts, eq-eqb, eqb-true, ne_eqb, or_cases, or_left, or_right}
-use Rattle.mr_event.specs.Footprint.{Footprint}
-use Rattle.mr_event.specs.Order.{Edge, HappensBefore}
+use Rattle.std.specs.Prelude.{cond}
+use Rattle.std.proofs.lemmas.Bool.{or_cases, or_left, or_right}
 use Rattle.mr_event.specs.Order.HappensBefore.{edge, chain}
-use Rattle.mr_event.specs.Predicted.{greatest_below, happens_before, has_edge}
-use Rattle.mr_event.proofs.Ordered.{Edge-before, HappensBefore-before}
-use Rattle.mr_event.proofs.Tests.{happens_before_is, has_edge_is}
-use Rattle.mr_picture.specs.Way.{IsWay, leads, next_step, way, way_over, way_within}
+use Rattle.mr_event.specs.Predicted.{has_edge}
+use Rattle.mr_event.proofs.Ordered.{Edge-before}
+use Rattle.mr_event.proofs.Tests.{has_edge_is}
+use Rattle.mr_picture.specs.Way.{IsWay, way_over}
 
 -- ---- the greatest number that passes
 

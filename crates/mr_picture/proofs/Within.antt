@@ -1,17 +1,6 @@
 -- Arrows, races and steps of a part are those of the run.
-use Rattle.std.proofs.Common.{◌≡◌, ℕ, ◌-◌, ◌<◌, ◌≤◌, inl, inr, Bool, true, false, List, [], ◌∷◌, length}
-use Rattle.std.proofs.Common.{get_or, refl, sym, subst, arith}
-use Rattle.std.proofs.lemmas.Bool.{and_parts}
-use Rattle.std.proofs.lemmas.Bool.Decides.{nat_tests}
-use Rattle.std.proofs.lemmas.List.Elements.{All-contains_itself, Contains-append_cases, Contains-append_right}
-use Rattle.std.proofs.lemmas.List.Elements.{filter-append}
-use Rattle.std.specs.Prelude.{All, nat_le, nat_lt}
-use Rattle.std.specs.List.{Contains, filter, range_with_len}
-use Rattle.mr_event.specs.Footprint.{Footprint}
-use Rattle.mr_event.specs.declared.footprint.Pair.{Pair}
-use Rattle.mr_picture.specs.declared.span.Span.{Span}
-use Rattle.mr_picture.specs.Span.{holds_race, is_in, races_in, steps_in}
-use Rattle.mr_picture.specs.Witness.{is_left_out, is_other, left_out, witness_steps}
+use Rattle.mr_picture.proofs.Common.{◌≡◌, ℕ, ◌-◌, ◌<◌, ◌≤◌, inl, inr, Bool, true, false, List, [], ◌∷◌, length, get_or, refl, sym, subst, arith, and_parts, nat_tests, Contains-append_cases, Contains-append_right, filter-append, All, nat_le, nat_lt, Contains, filter, range_with_len, Footprint, Pair, Span, holds_race, is_in, races_in, steps_in, is_left_out, is_other, left_out, witness_steps}
+use Rattle.std.proofs.lemmas.List.Elements.{All-contains_itself}
 use Rattle.mr_picture.proofs.Members.{first_of, from_range, none, only}
 use Rattle.mr_picture.proofs.WitnessLaws.{no_one, one}
 

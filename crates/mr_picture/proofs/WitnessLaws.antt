@@ -1,23 +1,9 @@
 -- The steps of a witness that are drawn, and those that it leaves out.
-use Rattle.std.proofs.Common.{◌≡◌, ℕ, zero, suc, ◌+◌, ◌-◌, ◌<◌, ◌≤◌, inl, inr, Bool, true, false, List, [], ◌∷◌}
-use Rattle.std.proofs.Common.{◌++◌, append_assoc, refl, sym, ap, subst, ◌∙◌, arith}
-use Rattle.std.proofs.lemmas.Bool.{and_parts, cases_Bool, eq-eqb, eqb-true, ne_eqb}
-use Rattle.std.proofs.lemmas.Bool.Decides.{nat_tests}
-use Rattle.std.proofs.lemmas.List.Elements.{filter-append}
-use Rattle.std.proofs.lemmas.List.Sorted.{IsPermutation-append_comm, IsPermutation-append_left, IsPermutation-filter_both}
-use Rattle.std.proofs.lemmas.List.Sorted.{IsPermutation-trans}
-use Rattle.std.specs.Prelude.{◌==◌, ◌&&◌, ◌||◌, not, nat_le, nat_lt, IsPermutation}
-use Rattle.std.specs.List.{filter, range_with_len}
-use Rattle.mr_event.specs.Footprint.{Footprint}
-use Rattle.mr_event.specs.declared.footprint.Pair.{Pair}
+use Rattle.mr_picture.proofs.Common.{◌≡◌, ℕ, zero, suc, ◌+◌, ◌-◌, ◌<◌, ◌≤◌, inl, inr, Bool, true, false, List, [], ◌∷◌, ◌++◌, append_assoc, refl, sym, ap, subst, ◌∙◌, arith, and_parts, cases_Bool, eq-eqb, eqb-true, ne_eqb, nat_tests, filter-append, ◌==◌, ◌&&◌, ◌||◌, not, nat_le, nat_lt, filter, range_with_len, Footprint, Pair, happens_before, HappensBefore-before, happens_before_is, Span, holds_race, is_in, steps_in, is_left_out, is_other, left_out, witness_steps}
+use Rattle.std.proofs.lemmas.List.Sorted.{IsPermutation-append_comm, IsPermutation-append_left, IsPermutation-filter_both, IsPermutation-trans}
+use Rattle.std.specs.Prelude.{IsPermutation}
 use Rattle.mr_event.specs.Kept.{kept}
 use Rattle.mr_event.specs.Order.{RacePair}
-use Rattle.mr_event.specs.Predicted.{happens_before}
-use Rattle.mr_event.proofs.Ordered.{HappensBefore-before}
-use Rattle.mr_event.proofs.Tests.{happens_before_is}
-use Rattle.mr_picture.specs.declared.span.Span.{Span}
-use Rattle.mr_picture.specs.Span.{holds_race, is_in, steps_in}
-use Rattle.mr_picture.specs.Witness.{is_left_out, is_other, left_out, witness_steps}
 
 -- ---- filters of numbers
 

@@ -1,25 +1,15 @@
 -- What stands from a place on begins with what writes the place's statement or terminator.
-use Rattle.std.proofs.Common.{◌≡◌, ℕ, zero, suc, ◌+◌, Bool, true, false, if◌then◌else◌, List, [], ◌∷◌, ◌++◌, length, map, take, drop, slice_get, Some, refl, ap, sym, ◌∙◌, subst, arith}
-use Rattle.std.proofs.lemmas.List.{append_assoc, map-append}
-use Rattle.mr_ast.specs.declared.program.Block.{Block}
-use Rattle.mr_ast.specs.declared.program.Function.{Function}
+use Rattle.mr_places.proofs.Common.{◌≡◌, ℕ, zero, suc, ◌+◌, Bool, true, false, if◌then◌else◌, List, [], ◌∷◌, ◌++◌, length, map, take, drop, slice_get, Some, refl, ap, sym, ◌∙◌, subst, arith, append_assoc, map-append, Block, Function, Word, Mark, Scope, Writing, inside_function, stmt_form, term_form, block_form, function_form, Spelled, behind, is_end, ends_of_block, ends_of_blocks, ends_of_function, ends_of_functions, ends_before, words_of_head, from_place, option_map, firsts_of, spot_at, spot_of}
 use Rattle.mr_ast.specs.declared.program.Program.{Program}
 use Rattle.mr_ast.specs.declared.program.Stmt.{Stmt}
-use Rattle.mr_ast.specs.Forms.{Word, Mark}
-use Rattle.mr_ast.specs.Scope.{Scope}
 use Rattle.mr_ast.specs.Words.{Texts}
-use Rattle.mr_ast.specs.Writing.{Writing}
-use Rattle.mr_ast.specs.ProgramGrammar.{inside_function, stmt_form, term_form, block_form, function_form}
-use Rattle.mr_ast.specs.Spelled.{Spelled}
 use Rattle.mr_lex.specs.Tokens.{Lexeme}
 use Rattle.mr_grammar.specs.WordsPlaces.{numbered, words_from, words_of}
 use Rattle.mr_grammar.specs.WordsDefined.{knowing}
 use Rattle.mr_grammar.specs.Denotes.{Denotes, IsFine, definitions_in, words_in}
 use Rattle.mr_grammar.proofs.Walk.Rows.{fine_parts}
-use Rattle.mr_places.specs.Places.{behind, is_end, ends_of_block, ends_of_blocks, ends_of_function, ends_of_functions, ends_before, words_of_head, from_place, BeginWith}
+use Rattle.mr_places.specs.Places.{BeginWith}
 use Rattle.std.specs.Prelude.{is_some}
-use Rattle.std.specs.Option.{option_map}
-use Rattle.mr_places.specs.Laid.{firsts_of, spot_at, spot_of}
 use Rattle.mr_places.proofs.LaidLaws.{found}
 use Rattle.mr_places.proofs.FreeLaws.{IsFreeRow}
 use Rattle.mr_places.proofs.EndLaws.{mark_text, Closes, Passes, closes_append, closes_some, passes_append, passes_closes, free_passes}

@@ -1,18 +1,11 @@
 -- The rows of blocks, functions and programs, in their parts.
-use Rattle.std.proofs.Common.{◌≡◌, ℕ, zero, suc, ◌+◌, ◌-◌, List, [], ◌∷◌, ◌++◌, length, codes, None, refl, ap, sym, ◌∙◌, subst, arith, nat_le}
-use Rattle.std.proofs.lemmas.List.{append_assoc}
-use Rattle.mr_ast.specs.declared.program.Block.{Block}
-use Rattle.mr_ast.specs.declared.program.Function.{Function}
+use Rattle.mr_places.proofs.Common.{◌≡◌, ℕ, zero, suc, ◌+◌, ◌-◌, List, [], ◌∷◌, ◌++◌, length, codes, None, refl, ap, sym, ◌∙◌, subst, arith, nat_le, append_assoc, Block, Function, Mark, EachSpelled, Scope, Writing, name_form, token, word, ◌◂◌, args_form, inside_function, judged_edition, judged_kind, stmt_form, term_form, block_form, function_form, globals_form, locals_form, SpelledInside, Spelled, ends_of_block, ends_of_blocks, ends_of_function}
 use Rattle.mr_ast.specs.declared.program.Local.{Local}
 use Rattle.mr_ast.specs.declared.program.LocalName.{LocalName}
 use Rattle.mr_ast.specs.declared.words.Bracket.TheVariants.{Round, Curly}
 use Rattle.mr_ast.specs.declared.words.Role.TheVariants.{DefinesFunction, DefinesBlock}
-use Rattle.mr_ast.specs.Forms.{Mark, EachSpelled}
-use Rattle.mr_ast.specs.Scope.{Scope}
-use Rattle.mr_ast.specs.Writing.{Writing, listed, local_use, name_form, token, word, ◌▪◌, ◌▸◌, ◌◂◌}
-use Rattle.mr_ast.specs.ProgramGrammar.{ProgramBody, args_form, inside_function, judged_edition, judged_kind, stmt_form, term_form, stmts_form, block_form, blocks_form, body_form, function_form, functions_form, globals_form, locals_form, program_form}
-use Rattle.mr_ast.specs.Spelled.{SpelledInside, Spelled}
-use Rattle.mr_places.specs.Places.{ends_of_block, ends_of_blocks, ends_of_function}
+use Rattle.mr_ast.specs.Writing.{listed, local_use, ◌▪◌, ◌▸◌}
+use Rattle.mr_ast.specs.ProgramGrammar.{ProgramBody, stmts_form, blocks_form, body_form, functions_form, program_form}
 use Rattle.mr_places.proofs.FreeLaws.{IsFree, IsFreeRow, free-append, free_spelled, opens_free, closes_free}
 use Rattle.mr_places.proofs.FreeForms.{forms_free, args_free, edition_free, globals_free, kind_free, locals_free, name_free, word_free}
 use Rattle.mr_places.proofs.EndLaws.{Closes, Passes, closes_passes, closes_append, passes_append, passes_closes, free_passes}

@@ -1,8 +1,5 @@
 -- Rows and their semicolons.
-use Rattle.std.proofs.Common.{◌≡◌, ℕ, suc, ◌+◌, true, if◌then◌else◌, List, [], ◌∷◌, ◌++◌, codes, Option, None, refl, ap, sym, ◌∙◌, arith}
-use Rattle.std.proofs.lemmas.List.{append_assoc}
-use Rattle.mr_ast.specs.Forms.{Word, Mark}
-use Rattle.mr_places.specs.Places.{behind, is_end}
+use Rattle.mr_places.proofs.Common.{◌≡◌, ℕ, suc, ◌+◌, true, if◌then◌else◌, List, [], ◌∷◌, ◌++◌, codes, Option, None, refl, ap, sym, ◌∙◌, arith, append_assoc, Word, Mark, behind, is_end}
 use Rattle.mr_places.proofs.FreeLaws.{IsFreeRow}
 
 abbrev pub mark_text : Mark → List ℕ

@@ -1,25 +1,24 @@
 -- No type, place, value, statement or terminator has a semicolon among its words, before the one behind it.
-use Rattle.std.proofs.Common.{◌≡◌, ℕ, Bool, false, List, codes, bytes_eq, refl}
+use Rattle.mr_places.proofs.Common.{◌≡◌, ℕ, Bool, false, List, codes, bytes_eq, refl, Kind, word, token, name_form, stmt_behind, assign_form, term_behind, judged_edition, judged_kind, locals_form, args_form, globals_form, form_of}
 use Rattle.mr_ast.specs.declared.words.Role.{Role}
 use Rattle.mr_ast.specs.declared.words.TypeWord.{TypeWord}
-use Rattle.mr_ast.specs.declared.words.TypeWord.TheVariants as type_word
 use Rattle.mr_ast.specs.declared.words.TreeWord.{TreeWord}
-use Rattle.mr_ast.specs.declared.words.TreeWord.TheVariants as tree_word
 use Rattle.mr_ast.specs.declared.words.ValueWord.{ValueWord}
-use Rattle.mr_ast.specs.declared.words.ValueWord.TheVariants as value_word
 use Rattle.mr_ast.specs.declared.words.StmtWord.{StmtWord}
-use Rattle.mr_ast.specs.declared.words.StmtWord.TheVariants as stmt_word
 use Rattle.mr_ast.specs.declared.words.TermWord.{TermWord}
-use Rattle.mr_ast.specs.declared.words.TermWord.TheVariants as term_word
 use Rattle.mr_ast.specs.declared.words.ItemWord.{ItemWord}
-use Rattle.mr_ast.specs.declared.words.ItemWord.TheVariants as item_word
 use Rattle.mr_ast.specs.declared.expr.BinaryOp.{BinaryOp}
 use Rattle.mr_ast.specs.Words.{is_name, is_number}
-use Rattle.mr_ast.specs.Writing.{Kind, TheType, TheTree, ThePlace, TheValue, word, limited_word, token, judged_u64, judged_repeat, judged_any, judged_positive, judged_name, judged_target, judged_int, u64_form, num_form, name_form, target_use, int_form}
+use Rattle.mr_ast.specs.Writing.{TheType, TheTree, ThePlace, TheValue, limited_word, judged_u64, judged_repeat, judged_any, judged_positive, judged_name, judged_target, judged_int, u64_form, num_form, target_use, int_form}
 use Rattle.mr_ast.specs.TypeGrammar.{shape_form, field_form, chunk_form, tag_form, variant_form, case_form, branch_form, tree_behind, judged_tree, tree_form, ref_form, tuple_type_form, array_form, union_type_form, enum_form, type_behind, judged_type, type_form, tags_form, cases_form, fields_form, chunks_form, variants_form}
 use Rattle.mr_ast.specs.ValueGrammar.{postfix_form, deref_form, base_form, place_from, global_value_form, tuple_value_form, union_value_form, variant_value_form, addr_of_form, cast_form, transmute_form, binary_form, value_behind, judged_value, value_form, postfixes_form, more_values_form}
-use Rattle.mr_ast.specs.ProgramGrammar.{numbered_form, stmt_behind, assign_form, switch_case_form, switch_form, unwind_form, call_form, judged_intrinsic, intrinsic_form, do_form, term_behind, judged_edition, judged_kind, local_form, locals_form, repeat_form, reloc_form, item_behind, judged_item, item_form, global_form, switch_cases_form, values_form, args_form, items_form, globals_form}
-use Rattle.mr_ast.specs.Spelled.{form_of}
+use Rattle.mr_ast.specs.ProgramGrammar.{numbered_form, switch_case_form, switch_form, unwind_form, call_form, judged_intrinsic, intrinsic_form, do_form, local_form, repeat_form, reloc_form, item_behind, judged_item, item_form, global_form, switch_cases_form, values_form, items_form}
+use Rattle.mr_ast.specs.declared.words.TypeWord.TheVariants as type_word
+use Rattle.mr_ast.specs.declared.words.TreeWord.TheVariants as tree_word
+use Rattle.mr_ast.specs.declared.words.ValueWord.TheVariants as value_word
+use Rattle.mr_ast.specs.declared.words.StmtWord.TheVariants as stmt_word
+use Rattle.mr_ast.specs.declared.words.TermWord.TheVariants as term_word
+use Rattle.mr_ast.specs.declared.words.ItemWord.TheVariants as item_word
 use Rattle.mr_places.proofs.FreeLaws.{IsFree}
 
 pub word_free : (text : List ℕ) → bytes_eq (codes ";") text ≡ false → IsFree (word text)

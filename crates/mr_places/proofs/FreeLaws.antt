@@ -1,14 +1,12 @@
 -- What is written in a form none of whose words may be a semicolon has none.
-use Rattle.std.proofs.Common.{◌≡◌, ℕ, zero, suc, ◌-◌, ◌==◌, inl, inr, Bool, true, false, List, [], ◌∷◌, ◌++◌, codes, bytes_eq, Option, Some, None, refl, ap, sym, ◌∙◌}
+use Rattle.mr_places.proofs.Common.{◌≡◌, ℕ, zero, suc, ◌-◌, Bool, true, false, List, [], ◌∷◌, ◌++◌, codes, bytes_eq, Option, Some, None, refl, ap, sym, ◌∙◌, Word, Mark, Cases, Either, EachSpelled, Scope, Kind, Writing, form_of, SpelledInside, Spelled, is_end}
+use Rattle.std.proofs.Common.{◌==◌, inl, inr}
 use Rattle.std.specs.List.{AllByRecursion}
 use Rattle.std.proofs.lemmas.Slice.Eq.{bytes_eq-Decides}
 use Rattle.mr_ast.specs.declared.words.Bracket.{Bracket}
 use Rattle.mr_ast.specs.declared.words.Bracket.TheVariants.{Round, Curly, Square}
-use Rattle.mr_ast.specs.Forms.{Word, Mark, Form, Empty, Then, Cases, Either, Many, Within, Part, In, Spelling, SpelledBy, EachSpelled, opening, closing}
-use Rattle.mr_ast.specs.Scope.{Scope}
-use Rattle.mr_ast.specs.Writing.{Kind, Writing}
-use Rattle.mr_ast.specs.Spelled.{form_of, NoPart, SpelledInside, SpelledPart, Spelled}
-use Rattle.mr_places.specs.Places.{is_end}
+use Rattle.mr_ast.specs.Forms.{Form, Empty, Then, Many, Within, Part, In, Spelling, SpelledBy, opening, closing}
+use Rattle.mr_ast.specs.Spelled.{NoPart, SpelledPart}
 
 -- no word of the row is a semicolon
 abbrev pub IsFreeRow : List Mark → Type 0

@@ -1,16 +1,13 @@
 -- What is kept to find places, step by step.
-use Rattle.std.proofs.Common.{◌≡◌, ℕ, zero, suc, ◌+◌, ◌-◌, ◌<◌, ◌≤◌, Bool, true, false, if◌then◌else◌, List, [], ◌∷◌, ◌++◌, length, take, drop, slice_get, get_or, MatchOption, Option, Some, None, refl, ap, sym, ◌∙◌, arith}
+use Rattle.mr_places.proofs.Common.{◌≡◌, ℕ, zero, suc, ◌+◌, ◌-◌, ◌<◌, Bool, true, false, if◌then◌else◌, List, [], ◌∷◌, ◌++◌, length, take, drop, slice_get, Option, Some, None, refl, ap, sym, ◌∙◌, arith, Block, Function, option_map, ends_from, firsts_of, firsts_of_blocks, spot_at, spot_of, behind, ends_before, ends_of_block, ends_of_blocks, ends_of_function, ends_of_functions, from_place, is_end, words_of_head}
+use Rattle.std.proofs.Common.{◌≤◌, get_or, MatchOption}
 use Rattle.std.specs.List.{sum_by}
 use Rattle.std.proofs.lemmas.List.{append-nil}
 use Rattle.std.proofs.lemmas.List.Sums.{sum_by-cons}
 use Rattle.mr_grammar.proofs.BaseOptions.{some_is}
-use Rattle.mr_ast.specs.declared.program.Block.{Block}
-use Rattle.mr_ast.specs.declared.program.Function.{Function}
 use Rattle.mr_lex.specs.Tokens.{Lexeme}
-use Rattle.std.specs.Option.{option_map}
 use Rattle.mr_places.specs.declared.places.Spot.{Spot}
-use Rattle.mr_places.specs.Laid.{ends_from, firsts_of, first_in, firsts_of_blocks, spot_at, spot_behind, spot_in, spot_of}
-use Rattle.mr_places.specs.Places.{behind, ends_before, ends_of_block, ends_of_blocks, ends_of_function, ends_of_functions, from_place, is_end, words_of_head}
+use Rattle.mr_places.specs.Laid.{first_in, spot_behind, spot_in}
 
 abbrev lexeme_text : Lexeme → List ℕ
 lexeme_text l = l.text

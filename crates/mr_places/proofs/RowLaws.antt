@@ -1,17 +1,12 @@
 -- The rows of statements, terminators, blocks, functions and programs, and their semicolons.
-use Rattle.std.proofs.Common.{◌≡◌, ℕ, zero, suc, ◌+◌, ◌-◌, Bool, true, false, if◌then◌else◌, List, [], ◌∷◌, ◌++◌, length, take, slice_get, codes, Option, Some, None, refl, ap, sym, ◌∙◌, subst, arith, nat_le}
+use Rattle.mr_places.proofs.Common.{◌≡◌, ℕ, zero, suc, ◌+◌, ◌-◌, Bool, true, false, if◌then◌else◌, List, [], ◌∷◌, ◌++◌, length, take, slice_get, codes, Option, Some, None, refl, ap, sym, ◌∙◌, subst, arith, nat_le, append_assoc, Word, Mark, Cases, Either, EachSpelled, Scope, Writing, ◌◂◌, assign_form, stmt_behind, term_behind, stmt_form, term_form, Spelled, is_end}
 use Rattle.std.specs.List.{sum_by}
-use Rattle.std.proofs.lemmas.List.{append_assoc}
 use Rattle.std.proofs.lemmas.List.Sums.{sum_by-cons}
 use Rattle.mr_grammar.proofs.BaseOptions.{some_is}
 use Rattle.mr_ast.specs.declared.program.Stmt.{Stmt}
 use Rattle.mr_ast.specs.declared.program.Term.{Term}
-use Rattle.mr_ast.specs.Forms.{Word, Mark, Cases, Either, EachSpelled}
-use Rattle.mr_ast.specs.Scope.{Scope}
-use Rattle.mr_ast.specs.Writing.{Writing, fine, ◌◂◌}
-use Rattle.mr_ast.specs.ProgramGrammar.{judged_stmt, judged_term, is_stmt_word, assign_form, stmt_behind, term_behind, stmt_form, term_form}
-use Rattle.mr_ast.specs.Spelled.{Spelled}
-use Rattle.mr_places.specs.Places.{is_end}
+use Rattle.mr_ast.specs.Writing.{fine}
+use Rattle.mr_ast.specs.ProgramGrammar.{judged_stmt, judged_term, is_stmt_word}
 use Rattle.mr_places.proofs.FreeLaws.{IsFree, free_spelled}
 use Rattle.mr_places.proofs.FreeForms.{forms_free, stmt_behind_free, assign_free, term_behind_free}
 use Rattle.mr_places.proofs.EndLaws.{Closes, Passes, closes_none, closes_passes, closes_append, passes_append, passes_closes, free_passes, end_closes}

@@ -1,14 +1,8 @@
 -- The accesses that memory notes have a byte, and end where the addresses do or before.
-use Rattle.std.proofs.Common.{◌≡◌, ◌≢◌, ℕ, zero, suc, ◌<◌, refl, sym, ◌∙◌, subst, List, [], ◌++◌, length, Bool, true, false, Option, Ok, All, arith}
+use Rattle.mr_plan.proofs.Common.{◌≡◌, ◌≢◌, ℕ, zero, suc, ◌<◌, refl, sym, ◌∙◌, subst, List, [], ◌++◌, length, Bool, true, false, Option, Ok, arith, Access, Pointer, Allocation, Memory, bytes_at, Went, Check, Read, Refer, accessing, Allocate, Free, MemoryQuery, MemoryReply, Modify, Reading, Write, memory_answer, Tally}
+use Rattle.std.proofs.Common.{All}
 use Rattle.std.proofs.lemmas.List.Elements.{All-append, All-cons, All-nil}
-use Rattle.mr_base.specs.declared.access.Access.{Access}
-use Rattle.mr_base.specs.declared.byte.Pointer.{Pointer}
-use Rattle.mr_mem.specs.Memory.{Allocation, Memory, bytes_at}
-use Rattle.mr_base.specs.Script.{Went}
 use Rattle.mr_event.specs.FootOk.{IsAccessOk}
-use Rattle.mr_eval.specs.Reads.{Check, Read, Refer, accessing}
-use Rattle.mr_eval.specs.MemoryQueries.{Allocate, Free, MemoryQuery, MemoryReply, Modify, Reading, Write, memory_answer}
-use Rattle.mr_eval.specs.Tally.{Tally}
 use Rattle.mr_plan.specs.Limits.{ArePlaced}
 use Rattle.mr_plan.proofs.MemoryAnswers.{Modifies, Replaces, changes, check_went, free_went, load_went, modify_went, refer_went, stays, store_went}
 use Rattle.mr_plan.proofs.RangeChecks.{Gave, accessing_none, accessing_one, aligned_ok, empty, filled, gave, ranged}

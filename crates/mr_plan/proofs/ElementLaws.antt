@@ -1,6 +1,5 @@
 -- The elements of short lists, and of two lists, one behind the other.
-use Rattle.std.proofs.Common.{◌≡◌, subst, sym, List, [], ◌∷◌, ◌++◌, arith, inl, inr, Any, Contains}
-use Rattle.std.proofs.lemmas.List.Elements.{Contains-append_right, Contains-push_cases}
+use Rattle.mr_plan.proofs.Common.{◌≡◌, subst, sym, List, [], ◌∷◌, ◌++◌, arith, inl, inr, Any, Contains, Contains-append_right, Contains-push_cases}
 
 pub Contains-nil : {A : Type 0} (x : A) → Contains [] x → ⊥
 Contains-nil x h = let k = h.1 in omega arith

@@ -1,14 +1,10 @@
 -- The end of an allocation: what it needs of memory, and that the header tells it all.
-use Rattle.std.proofs.Common.{◌≡◌, ℕ, refl, ap, ◌∙◌, List, [], ◌∷◌, Option, Some, None, Ok, Bool, true, false, length, ◌==◌}
-use Rattle.std.specs.FinMap as fin
-use Rattle.mr_base.specs.declared.byte.AllocId.{AllocId}
-use Rattle.mr_base.specs.declared.byte.Kind.{Kind}
-use Rattle.mr_base.specs.declared.byte.Pointer.{Pointer}
-use Rattle.mr_base.specs.declared.reason.Reason.{Reason}
-use Rattle.mr_base.specs.declared.reason.Reason.TheVariants.{DeadAllocation, FreeAddress, FreeAlign, FreeKind, FreeSize}
-use Rattle.mr_mem.specs.Memory.{Allocation, Memory, first_failed, free_fault, freed, freed_of, kind_number, refusal, unless, without_life}
-use Rattle.mr_plan.proofs.Headers.{Like}
+use Rattle.mr_plan.proofs.Common.{◌≡◌, ℕ, refl, ap, ◌∙◌, List, [], ◌∷◌, Option, Some, None, Ok, Bool, true, false, length, ◌==◌, AllocId, Kind, Pointer, Reason, DeadAllocation, Allocation, Memory, free_fault, freed, kind_number}
+use Rattle.mr_base.specs.declared.reason.Reason.TheVariants.{FreeAddress, FreeAlign, FreeKind, FreeSize}
+use Rattle.mr_mem.specs.Memory.{first_failed, freed_of, refusal, unless, without_life}
 use Rattle.mr_base.proofs.Comparisons.{eq_from}
+use Rattle.std.specs.FinMap as fin
+use Rattle.mr_plan.proofs.Headers.{Like}
 
 abbrev pub dead : Allocation → Allocation
 dead a = record a { live = false }

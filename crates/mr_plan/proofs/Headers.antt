@@ -1,8 +1,6 @@
 -- What is known of an allocation beside its bytes: what it keeps for good, and whether it is live.
-use Rattle.std.proofs.Common.{◌≡◌, refl, ap, ◌∙◌, Option, Some, None, length}
-use Rattle.std.proofs.lemmas.Option.{same_Some}
-use Rattle.mr_mem.specs.Memory.{Allocation}
-use Rattle.mr_plan.specs.Places.{Header, header_of}
+use Rattle.mr_plan.proofs.Common.{◌≡◌, refl, ap, ◌∙◌, Option, Some, None, length, same_Some, Allocation, header_of}
+use Rattle.mr_plan.specs.Places.{Header}
 
 -- what an allocation keeps for good
 pub record Lasting (a b : Allocation) : Type 0 where

@@ -1,7 +1,5 @@
 -- Two identities are one, or differ.
-use Rattle.std.proofs.Common.{◌≡◌, ◌≢◌, ap, ◌⊎◌, inl, inr}
-use Rattle.std.proofs.lemmas.Bool.{cases_eq}
-use Rattle.mr_base.specs.declared.byte.AllocId.{AllocId}
+use Rattle.mr_plan.proofs.Common.{◌≡◌, ◌≢◌, ap, ◌⊎◌, inl, inr, cases_eq, AllocId}
 
 pub id_cases : (a b : AllocId) → (a ≡ b) ⊎ (a ≢ b)
 id_cases a b =

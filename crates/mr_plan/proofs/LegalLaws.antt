@@ -1,6 +1,5 @@
 -- What a legal entry has: no fault of any part, and as many picks as are asked for.
-use Rattle.std.proofs.Common.{◌≡◌, ℕ, suc, ◌+◌, refl, ap, List, [], ◌∷◌, length, Option, Some, None, Bool, true, false}
-use Rattle.std.specs.Prelude.{slice_get, if◌then◌else◌}
+use Rattle.mr_plan.proofs.Common.{◌≡◌, ℕ, suc, ◌+◌, refl, ap, List, [], ◌∷◌, length, Option, Some, None, Bool, true, false, slice_get, if◌then◌else◌}
 use Rattle.mr_base.specs.declared.thread.Status.{Status}
 use Rattle.mr_mem.specs.Memory.{Ranges, range_fault, with_range}
 use Rattle.mr_sched.specs.declared.schedule.Ask.{Ask}

@@ -1,4 +1,5 @@
 pub mod AccessBounds
+mod Common
 pub mod ElementLaws
 pub mod FreeLaws
 pub mod Headers

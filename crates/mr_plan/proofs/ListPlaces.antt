@@ -1,5 +1,5 @@
 -- What a list has at each place: two lists, one behind the other, and a part of a list.
-use Rattle.std.proofs.Common.{◌≡◌, ℕ, zero, suc, ◌+◌, ◌<◌, ◌≤◌, refl, sym, ap, ◌∙◌, List, [], ◌∷◌, take, drop, arith, Some, None, slice_get}
+use Rattle.mr_plan.proofs.Common.{◌≡◌, ℕ, zero, suc, ◌+◌, ◌<◌, ◌≤◌, refl, sym, ap, ◌∙◌, List, [], ◌∷◌, take, drop, arith, Some, None, slice_get}
 
 -- lists with the same at each place are one
 pub same_by_places : {A : Type 0} (xs ys : List A) → ((k : ℕ) → slice_get xs k ≡ slice_get ys k) → xs ≡ ys

@@ -1,19 +1,6 @@
 -- What a run of a script over memory leaves of the allocations that it doesn't free: they are there and live still.
-use Rattle.std.proofs.Common.{◌≡◌, ℕ, ◌<◌, refl, sym, ap, ◌∙◌, subst, List, [], ◌∷◌, ◌++◌, length, arith, inl, inr, Option, Some, true, Contains}
-use Rattle.std.proofs.lemmas.List.Elements.{Contains-push}
-use Rattle.std.proofs.lemmas.Option.{same_Some}
+use Rattle.mr_plan.proofs.Common.{◌≡◌, ℕ, ◌<◌, refl, sym, ap, ◌∙◌, subst, List, [], ◌∷◌, ◌++◌, length, arith, inl, inr, Option, Some, true, Contains, Contains-push, same_Some, AbstractByte, AllocId, Pointer, Done, Undefined, IllFormed, Ask, Went, run, goes_on, same_state, Kind, Allocation, Memory, allocated, fresh, get_here, get_there, Allocate, Free, MemoryQuery, MemoryReply, MemoryScript, Modify, Reading, Write, memory_answer, next_id, number_bytes, Check, Read, Refer, Tally}
 use Rattle.std.specs.FinMap as fin
-use Rattle.mr_base.specs.declared.byte.AbstractByte.{AbstractByte}
-use Rattle.mr_base.specs.declared.byte.AllocId.{AllocId}
-use Rattle.mr_base.specs.declared.byte.Pointer.{Pointer}
-use Rattle.mr_base.specs.Script.{Done, Undefined, IllFormed, Ask, Went, run}
-use Rattle.mr_base.proofs.ScriptSwaps.{goes_on, same_state}
-use Rattle.mr_base.specs.declared.byte.Kind.{Kind}
-use Rattle.mr_mem.specs.Memory.{Allocation, Memory, allocated, fresh}
-use Rattle.mr_mem.proofs.Identities.{get_here, get_there}
-use Rattle.mr_eval.specs.MemoryQueries.{Allocate, Free, MemoryQuery, MemoryReply, MemoryScript, Modify, Reading, Write, memory_answer, next_id, number_bytes}
-use Rattle.mr_eval.specs.Reads.{Check, Read, Refer}
-use Rattle.mr_eval.specs.Tally.{Tally}
 use Rattle.mr_plan.proofs.FreeLaws.{Frees, dead, frees}
 use Rattle.mr_plan.proofs.Headers.{Lasting, lasting_then}
 use Rattle.mr_plan.proofs.IdentityCases.{id_cases}

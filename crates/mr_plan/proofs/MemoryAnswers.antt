@@ -1,21 +1,9 @@
 -- What each query to memory comes to, by the result that memory gives.
-use Rattle.std.proofs.Common.{◌≡◌, ℕ, ◌+◌, refl, ap, subst, ◌∙◌, List, [], ◌∷◌, ◌++◌, Result, Ok, Err, Option, Some, None, Bool, true, false, length}
-use Rattle.mr_base.specs.declared.byte.AbstractByte.{AbstractByte}
-use Rattle.mr_base.specs.declared.byte.AllocId.{AllocId}
-use Rattle.mr_base.specs.declared.byte.Kind.{Kind}
-use Rattle.mr_base.specs.declared.byte.Pointer.{Pointer}
-use Rattle.mr_base.specs.declared.reason.Reason.{Reason}
-use Rattle.mr_base.specs.declared.reason.Reason.TheVariants.{DanglingReference}
+use Rattle.mr_plan.proofs.Common.{◌≡◌, ℕ, ◌+◌, refl, ap, subst, ◌∙◌, List, [], ◌∷◌, ◌++◌, Result, Ok, Err, Option, Some, None, Bool, true, false, length, AbstractByte, AllocId, Kind, Pointer, Reason, DanglingReference, Changes, Moves, Refers, Outcome, Went, on, Memory, checked, freed, read, written, Check, Read, Refer, Seen, accessing, answered, named, seeing, touching, Free, Modify, Reading, Write, changing, memory_answer, next_id, number_bytes, replacing, Tally, seen_of, with_seen, same_state, same_value}
 use Rattle.mr_base.specs.declared.reached.Reaching.{Reaching}
-use Rattle.mr_base.specs.declared.reached.Reaching.TheVariants.{Changes, Frees, Loads, Moves, Refers, Stores}
-use Rattle.mr_base.specs.Script.{Outcome, Went, on}
+use Rattle.mr_base.specs.declared.reached.Reaching.TheVariants.{Frees, Loads, Stores}
 use Rattle.mr_base.specs.Stops.{reached_by}
-use Rattle.mr_mem.specs.Memory.{Memory, checked, freed, read, written}
-use Rattle.mr_eval.specs.Reads.{Check, Read, Refer, Seen, accessing, answered, named, seeing, touching}
 use Rattle.mr_eval.specs.ValueNumbers.{number_of}
-use Rattle.mr_eval.specs.MemoryQueries.{Free, Modify, Reading, Write, changing, memory_answer, next_id, number_bytes, replacing}
-use Rattle.mr_eval.specs.Tally.{Tally, seen_of, with_seen}
-use Rattle.mr_base.proofs.ScriptSwaps.{same_state, same_value}
 use Rattle.mr_plan.proofs.WentLaws.{HasResult, has_result}
 
 -- the notes behind a range check, a load, a store, a new allocation and the end of one

@@ -1,25 +1,12 @@
 -- What is known of memory and of the tally at each moment of a step.
-use Rattle.std.proofs.Common.{◌≡◌, ◌≢◌, ℕ, ◌+◌, ◌<◌, ◌≤◌, refl, sym, ap, ◌∙◌, subst, subst₂, append-nil, Option, List, [], ◌∷◌, ◌++◌, length, arith, ◌⊎◌, inl, inr, Some, None, Ok, true, false, Contains}
-use Rattle.std.proofs.lemmas.List.Elements.{Contains-append_cases, Contains-append_left, Contains-push, Contains-push_cases}
-use Rattle.std.proofs.lemmas.Bool.{both_ways, false_from_ne_true, false≢true}
-use Rattle.std.proofs.lemmas.Option.{same_Some}
-use Rattle.std.specs.FinMap as fin
-use Rattle.mr_base.specs.declared.access.Access.{Access}
-use Rattle.mr_base.specs.declared.byte.AbstractByte.{AbstractByte}
-use Rattle.mr_base.specs.declared.byte.AllocId.{AllocId}
-use Rattle.mr_base.specs.declared.byte.Kind.{Kind}
-use Rattle.mr_base.specs.declared.byte.Kind.TheVariants.{Function, Heap, Stack, Static}
-use Rattle.mr_base.specs.declared.byte.AbstractByte.TheVariants.{Uninit}
-use Rattle.mr_base.specs.declared.byte.Pointer.{Pointer}
+use Rattle.mr_plan.proofs.Common.{◌≡◌, ◌≢◌, ℕ, ◌+◌, ◌<◌, ◌≤◌, refl, sym, ap, ◌∙◌, subst, subst₂, append-nil, Option, List, [], ◌∷◌, ◌++◌, length, arith, ◌⊎◌, inl, inr, Some, None, Ok, true, false, Contains, Contains-append_left, Contains-push, Contains-push_cases, both_ways, same_Some, Access, AbstractByte, AllocId, Kind, Function, Heap, Stack, Static, Uninit, Pointer, Allocation, Memory, allocated, bytes_at, fresh, get_here, get_there, Check, Read, Refer, accessing, seeing, touching, Allocate, Free, MemoryQuery, MemoryReply, Modify, Reading, Write, memory_answer, next_id, number_bytes, Tally, seen_of, start_tally, with_seen, AtMemory, MemoryPlace, ReadsMemory, WritesMemory, in_memory}
+use Rattle.std.proofs.lemmas.List.Elements.{Contains-append_cases}
+use Rattle.std.proofs.lemmas.Bool.{false_from_ne_true, false≢true}
 use Rattle.mr_base.proofs.ScriptSwaps.{IsKept}
 use Rattle.std.specs.Prelude.{replicate}
 use Rattle.std.proofs.Math.ListN.{length-replicate}
-use Rattle.mr_mem.specs.Memory.{Allocation, Memory, allocated, bytes_at, fresh, held}
-use Rattle.mr_mem.proofs.Identities.{get_here, get_there}
-use Rattle.mr_eval.specs.Reads.{Check, Read, Refer, accessing, seeing, touching}
-use Rattle.mr_eval.specs.MemoryQueries.{Allocate, Free, MemoryQuery, MemoryReply, Modify, Reading, Write, memory_answer, next_id, number_bytes}
-use Rattle.mr_eval.specs.Tally.{Tally, seen_of, start_tally, with_seen}
-use Rattle.mr_plan.specs.Places.{AtMemory, MemoryPlace, ReadsMemory, WritesMemory, in_memory}
+use Rattle.mr_mem.specs.Memory.{held}
+use Rattle.std.specs.FinMap as fin
 use Rattle.mr_plan.proofs.ElementLaws.{Contains-nil, Contains-one}
 use Rattle.mr_plan.proofs.FreeLaws.{Frees, dead, free_live, frees}
 use Rattle.mr_plan.proofs.Headers.{Lasting, lasting_same, lasting_then}

@@ -1,23 +1,10 @@
 -- Each query to memory is local: where the places that it reads are the same, it answers the same and changes the same. And two memories
 -- with the same at each place are one.
-use Rattle.std.proofs.Common.{◌≡◌, ℕ, ◌+◌, ◌-◌, ◌<◌, ◌≤◌, refl, sym, ap, ◌∙◌, subst, subst₂, List, [], ◌∷◌, ◌++◌, inl, inr, Option, Some, None, Ok, Bool, true, false, length, take, drop, arith, slice_get, Any, Contains}
-use Rattle.std.proofs.lemmas.Bool.{cases_lt}
-use Rattle.std.proofs.lemmas.List.Elements.{Contains-append_left, Contains-append_right, Contains-push}
-use Rattle.std.specs.FinMap as fin
-use Rattle.mr_base.specs.declared.reached.Reaching.TheVariants.{Moves, Refers}
-use Rattle.mr_base.specs.declared.byte.AbstractByte.{AbstractByte}
-use Rattle.mr_base.specs.declared.byte.AllocId.{AllocId}
-use Rattle.mr_base.specs.declared.byte.Kind.{Kind}
-use Rattle.mr_base.specs.declared.byte.Pointer.{Pointer}
-use Rattle.mr_base.specs.declared.reason.Reason.TheVariants.{DanglingReference}
-use Rattle.mr_base.specs.Script.{Went}
+use Rattle.mr_plan.proofs.Common.{◌≡◌, ℕ, ◌+◌, ◌-◌, ◌<◌, ◌≤◌, refl, sym, ap, ◌∙◌, subst, subst₂, List, [], ◌∷◌, ◌++◌, inl, inr, Option, Some, None, Ok, Bool, true, false, length, take, drop, arith, slice_get, Any, Contains, cases_lt, Contains-append_left, Contains-append_right, Contains-push, Moves, Refers, AbstractByte, AllocId, Kind, Pointer, DanglingReference, Went, Allocation, Memory, allocated, bytes_at, checked, free_fault, fresh, is_multiple, read, written, Check, Read, Refer, accessing, named, touching, Allocate, Free, MemoryQuery, MemoryReply, Modify, Reading, Write, memory_answer, next_id, number_bytes, Tally, AtMemory, ByteAt, Covers, HeaderOf, MemoryPlace, ReadsMemory, StoresAt, WritesMemory, byte_at, header_of, in_memory}
 use Rattle.mr_base.proofs.ScriptSwaps.{IsLocal}
-use Rattle.mr_mem.specs.Memory.{Allocation, Memory, allocated, bytes_at, checked, free_fault, fresh, is_multiple, read, written}
 use Rattle.mr_mem.proofs.Identities.{id_exact, id_total}
-use Rattle.mr_eval.specs.Reads.{Check, Read, Refer, accessing, named, touching}
-use Rattle.mr_eval.specs.MemoryQueries.{Allocate, Free, MemoryQuery, MemoryReply, Modify, Reading, Write, memory_answer, next_id, number_bytes}
-use Rattle.mr_eval.specs.Tally.{Tally}
-use Rattle.mr_plan.specs.Places.{AtMemory, ByteAt, Covers, HeaderOf, MemoryPlace, ReadsMemory, StoresAt, WritesMemory, byte_at, header_of, in_memory}
+use Rattle.mr_eval.proofs.ValueEncodeLength.{length-initialised}
+use Rattle.std.specs.FinMap as fin
 use Rattle.mr_plan.proofs.ElementLaws.{Any-append_right}
 use Rattle.mr_plan.proofs.FreeLaws.{dead, dead_like, free_fault_like, frees, frees_too}
 use Rattle.mr_plan.proofs.Headers.{Like, like_header, like_one}
@@ -28,7 +15,6 @@ use Rattle.mr_plan.proofs.RangeChecks.{Both, GivesToo, Within, accesses_range, a
 use Rattle.mr_plan.proofs.StoreLaws.{byte_inside, put_one, rewritten, rewritten_above, rewritten_below, rewritten_header, rewritten_in, stored_in, written_is}
 use Rattle.mr_plan.proofs.TallyGrows.{grow_seeing, reads_grow}
 use Rattle.mr_plan.proofs.WentLaws.{at_outcome}
-use Rattle.mr_eval.proofs.ValueEncodeLength.{length-initialised}
 
 abbrev pub MemoryAgrees : Memory → Memory → Tally → Type 0
 MemoryAgrees m m' n = (o : MemoryPlace) → ReadsMemory n o → in_memory m o ≡ in_memory m' o

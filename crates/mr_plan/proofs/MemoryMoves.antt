@@ -1,11 +1,6 @@
 -- How two memories move, in which one allocation is put at the same identity.
-use Rattle.std.proofs.Common.{◌≡◌, ℕ, sym, ap, ◌∙◌, subst, ◌⊎◌, inl, inr, Option, Some}
+use Rattle.mr_plan.proofs.Common.{◌≡◌, ℕ, sym, ap, ◌∙◌, subst, ◌⊎◌, inl, inr, Option, Some, AllocId, Allocation, Memory, get_here, get_there, Tally, ByteAt, HeaderOf, MemoryPlace, WritesMemory, byte_at, header_of, in_memory}
 use Rattle.std.specs.FinMap as fin
-use Rattle.mr_base.specs.declared.byte.AllocId.{AllocId}
-use Rattle.mr_mem.specs.Memory.{Allocation, Memory}
-use Rattle.mr_mem.proofs.Identities.{get_here, get_there}
-use Rattle.mr_eval.specs.Tally.{Tally}
-use Rattle.mr_plan.specs.Places.{ByteAt, HeaderOf, MemoryPlace, WritesMemory, byte_at, header_of, in_memory}
 use Rattle.mr_plan.proofs.IdentityCases.{id_cases}
 
 -- a move of two states: what there is is as it was in both, or is now the same and was written

@@ -1,15 +1,9 @@
 -- Parts of a step that ask memory alone: what they leave of all that is shared, of the notes, and of storage.
-use Rattle.std.proofs.Common.{◌≡◌, ℕ, refl, subst, sym, List}
-use Rattle.mr_mem.specs.Memory.{Memory}
-use Rattle.mr_base.specs.Script.{Outcome, Went, Refused, Broken, on, run}
-use Rattle.mr_eval.specs.MemoryQueries.{MemoryScript, memory_answer, reading_part}
-use Rattle.mr_eval.specs.Reads.{ReadScript}
+use Rattle.mr_plan.proofs.Common.{◌≡◌, ℕ, refl, subst, sym, List, Memory, Outcome, Went, Refused, Broken, on, run, MemoryScript, memory_answer, reading_part, ReadScript, Tally, AreHeld, Slot}
 use Rattle.mr_eval.specs.Sound.{Comes, IsSafe}
-use Rattle.mr_eval.specs.Tally.{Tally}
 use Rattle.mr_plan.specs.Notes.{Notes}
 use Rattle.mr_plan.specs.Queries.{Shared, answer, in_shared, memory_part}
 use Rattle.mr_plan.specs.Safety.{IsSafeChange}
-use Rattle.mr_plan.specs.Storage.{AreHeld, Slot}
 use Rattle.mr_plan.proofs.LiveFacts.{run_leaves}
 use Rattle.mr_plan.proofs.MemoryFacts.{MemoryFacts}
 use Rattle.mr_plan.proofs.Outcomes.{After}

@@ -1,6 +1,6 @@
 -- What holds of where a run went on, which has a rule.
-use Rattle.std.proofs.Common.{subst, sym}
-use Rattle.mr_base.specs.Script.{Script, ◌>>=◌, Outcome, Went, Refused, Broken, on, run}
+use Rattle.mr_plan.proofs.Common.{subst, sym, ◌>>=◌, Outcome, Went, Refused, Broken, on, run}
+use Rattle.mr_base.specs.Script.{Script}
 use Rattle.mr_base.proofs.ScriptRuns.{run_bind}
 
 -- there is a rule, and where it goes on this holds of the result and the state

@@ -1,14 +1,7 @@
 -- Places of a small memory, and what a store there reads and writes.
-use Rattle.std.proofs.Common.{◌≡◌, refl, [], ◌∷◌, arith, inl, inr, Some, None, true, false, Contains}
-use Rattle.std.proofs.lemmas.List.Elements.{Contains-push}
+use Rattle.mr_plan.proofs.Common.{◌≡◌, refl, [], ◌∷◌, arith, inl, inr, Some, None, true, false, Contains, Contains-push, Uninit, AllocId, Function, Heap, Pointer, Allocation, fresh, Tally, start_tally, ByteAt, Covers, HeaderOf, ReadsMemory, StoresAt, WritesMemory, byte_at, header_of}
 use Rattle.std.proofs.lemmas.List.Quantifiers.{Any-push}
-use Rattle.mr_base.specs.declared.byte.AbstractByte.TheVariants.{Init, Uninit}
-use Rattle.mr_base.specs.declared.byte.AllocId.{AllocId}
-use Rattle.mr_base.specs.declared.byte.Kind.TheVariants.{Function, Heap}
-use Rattle.mr_base.specs.declared.byte.Pointer.{Pointer}
-use Rattle.mr_mem.specs.Memory.{Allocation, fresh}
-use Rattle.mr_eval.specs.Tally.{Tally, start_tally}
-use Rattle.mr_plan.specs.Places.{ByteAt, Covers, HeaderOf, ReadsMemory, StoresAt, WritesMemory, byte_at, header_of}
+use Rattle.mr_base.specs.declared.byte.AbstractByte.TheVariants.{Init}
 use Rattle.mr_plan.proofs.ElementLaws.{Any-one, Contains-nil}
 use Rattle.mr_plan.proofs.MemoryAnswers.{with_store}
 

@@ -1,6 +1,5 @@
 -- Lists with one element replaced.
-use Rattle.std.proofs.Common.{◌≡◌, ℕ, zero, suc, ◌<◌, refl, arith, List, [], ◌∷◌, length, Some}
-use Rattle.std.specs.Prelude.{slice_get, slice_set}
+use Rattle.mr_plan.proofs.Common.{◌≡◌, ℕ, zero, suc, ◌<◌, refl, arith, List, [], ◌∷◌, length, Some, slice_get, slice_set}
 
 -- what stands at a position of a list with one element replaced
 pub set_here : {A : Type 0} (xs : List A) (i : ℕ) (x : A) → i < length xs → slice_get (slice_set xs i x) i ≡ Some x

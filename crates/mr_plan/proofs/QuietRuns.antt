@@ -1,10 +1,5 @@
 -- Scripts over memory that neither make nor free an allocation, and what their runs leave.
-use Rattle.std.proofs.Common.{◌≡◌, ℕ, refl, subst, Option}
-use Rattle.mr_mem.specs.Memory.{Memory}
-use Rattle.mr_base.specs.Script.{Done, Undefined, IllFormed, Ask, ◌>>=◌, Went}
-use Rattle.mr_eval.specs.MemoryQueries.{Allocate, Free, MemoryQuery, MemoryReply, MemoryScript, Modify, Reading, Write, memory_answer, reading_part}
-use Rattle.mr_eval.specs.Reads.{Check, Read, ReadScript, Refer}
-use Rattle.mr_eval.specs.Tally.{Tally}
+use Rattle.mr_plan.proofs.Common.{◌≡◌, ℕ, refl, subst, Option, Memory, Done, Undefined, IllFormed, Ask, ◌>>=◌, Went, Allocate, Free, MemoryQuery, MemoryReply, MemoryScript, Modify, Reading, Write, memory_answer, reading_part, Check, Read, ReadScript, Refer, Tally}
 use Rattle.mr_plan.proofs.MemoryAnswers.{Replaces, changes, check_went, load_went, modify_went, refer_went, stays, store_went}
 use Rattle.mr_plan.proofs.WentLaws.{at_outcome}
 

@@ -1,16 +1,11 @@
 -- What the range check needs of memory, and what is noted of it; and that a memory with the same headers passes it too.
-use Rattle.std.proofs.Common.{◌≡◌, ◌≢◌, ℕ, ◌+◌, ◌<◌, ◌≤◌, refl, sym, ap, ◌∙◌, subst, [], ◌∷◌, inl, inr, Option, Some, None, Result, Ok, Err, Bool, true, false, cond, length, arith, ◌&&◌, ◌==◌, nat_le, if◌then◌else◌, Any, Contains}
-use Rattle.std.proofs.lemmas.Bool.{and_from, and_parts, cases_eq, eq-eqb, le-leb, leb-true, ne_eqb}
-use Rattle.std.proofs.lemmas.List.Elements.{Contains-push}
+use Rattle.mr_plan.proofs.Common.{◌≡◌, ◌≢◌, ℕ, ◌+◌, ◌<◌, ◌≤◌, refl, sym, ap, ◌∙◌, subst, [], ◌∷◌, inl, inr, Option, Some, None, Result, Ok, Err, Bool, true, false, cond, length, arith, ◌==◌, if◌then◌else◌, Any, Contains, cases_eq, le-leb, Contains-push, AllocId, Pointer, Reason, DeadAllocation, Allocation, Memory, aligned, found, inside, is_multiple, then_give, accessing, touching, Covers, HeaderOf, StoresAt, header_of, in_memory}
+use Rattle.std.proofs.Common.{◌&&◌, nat_le}
+use Rattle.std.proofs.lemmas.Bool.{and_from, and_parts, eq-eqb, leb-true, ne_eqb}
 use Rattle.std.proofs.lemmas.List.Quantifiers.{Any-push}
+use Rattle.mr_base.specs.declared.reason.Reason.TheVariants.{Misaligned, OutOfBounds}
+use Rattle.mr_eval.specs.Reads.{ids}
 use Rattle.std.specs.FinMap as fin
-use Rattle.mr_base.specs.declared.byte.AllocId.{AllocId}
-use Rattle.mr_base.specs.declared.byte.Pointer.{Pointer}
-use Rattle.mr_base.specs.declared.reason.Reason.{Reason}
-use Rattle.mr_base.specs.declared.reason.Reason.TheVariants.{DeadAllocation, Misaligned, OutOfBounds}
-use Rattle.mr_mem.specs.Memory.{Allocation, Memory, aligned, found, inside, is_multiple, then_give}
-use Rattle.mr_eval.specs.Reads.{accessing, ids, touching}
-use Rattle.mr_plan.specs.Places.{Covers, HeaderOf, StoresAt, header_of, in_memory}
 use Rattle.mr_plan.proofs.Headers.{Like, like_one}
 
 -- ---- one memory

@@ -1,12 +1,7 @@
 -- A script of evaluation, as a part of one that asks memory, does what it does over the memory alone; and such a script, as a part of a step,
 -- does what it does over memory and tally alone.
-use Rattle.std.proofs.Common.{◌≡◌, refl, ap, ◌∙◌}
-use Rattle.mr_mem.specs.Memory.{Memory}
-use Rattle.mr_base.specs.Script.{Done, Undefined, IllFormed, Ask, ◌>>=◌, Outcome, Went, Refused, Broken, on, run}
+use Rattle.mr_plan.proofs.Common.{◌≡◌, refl, ap, ◌∙◌, Memory, Done, Undefined, IllFormed, Ask, ◌>>=◌, Outcome, Went, Refused, Broken, on, run, ReadScript, Seen, reading, Tally, seen_of, with_seen, MemoryScript, memory_answer, reading_part}
 use Rattle.mr_base.proofs.ScriptRuns.{run_bind}
-use Rattle.mr_eval.specs.Reads.{ReadScript, Seen, reading}
-use Rattle.mr_eval.specs.Tally.{Tally, seen_of, with_seen}
-use Rattle.mr_eval.specs.MemoryQueries.{MemoryScript, memory_answer, reading_part}
 use Rattle.mr_plan.specs.Notes.{Notes}
 use Rattle.mr_plan.specs.Queries.{Shared, StepScript, answer, in_shared, memory_part}
 

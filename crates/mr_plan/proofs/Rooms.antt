@@ -1,7 +1,5 @@
 -- Lists of rooms in another order.
-use Rattle.std.proofs.Common.{◌≡◌, ◌≢◌, ℕ, zero, suc, ◌+◌, ◌<◌, refl, ap, ◌∙◌, List, [], ◌∷◌, ◌++◌, length, arith, ◌⊎◌, inl, inr, Some}
-use Rattle.std.specs.Prelude.{slice_get}
-use Rattle.mr_plan.specs.Storage.{Slot}
+use Rattle.mr_plan.proofs.Common.{◌≡◌, ◌≢◌, ℕ, zero, suc, ◌+◌, ◌<◌, refl, ap, ◌∙◌, List, [], ◌∷◌, ◌++◌, length, arith, ◌⊎◌, inl, inr, Some, slice_get, Slot}
 use Rattle.mr_plan.proofs.StorageRuns.{Entails}
 
 -- what stands in two lists in a row

@@ -1,6 +1,5 @@
 -- What runs keep, over any language of steps.
-use Rattle.std.proofs.Common.{ℕ, ◌+◌, ◌≤◌, arith, List}
-use Rattle.std.specs.Prelude.{Some, None, Option}
+use Rattle.mr_plan.proofs.Common.{ℕ, ◌+◌, ◌≤◌, arith, List, Some, None, Option}
 use Rattle.mr_sched.specs.declared.schedule.Entry.{Entry}
 use Rattle.mr_plan.specs.Machine.{State, Language, Bare, Completed, Stops, IllFormedStep, bare}
 use Rattle.mr_plan.specs.Runs.{Config, after_bare, stepped_from, machine_step}

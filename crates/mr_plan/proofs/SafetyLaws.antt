@@ -1,23 +1,17 @@
 -- Scripts over memory that are never ill-formed, by their parts, and their runs.
-use Rattle.std.proofs.Common.{◌≡◌, ℕ, ◌<◌, ◌*◌, ◌^◌, refl, subst, Result, Ok, Err, Option, None, Some, Bool, true, false, List, length}
+use Rattle.mr_plan.proofs.Common.{◌≡◌, ℕ, ◌<◌, refl, subst, Result, Ok, Err, Option, None, Some, Bool, true, false, List, length, Pointer, Reason, Changes, AbstractByte, Memory, freed, read, written, Done, Undefined, IllFormed, Ask, ◌>>=◌, Outcome, Went, Refused, Broken, on, run, ReadScript, Seen, accessing, answered, reading, seeing, touching, Allocate, Free, MemoryQuery, MemoryScript, Modify, Reading, Write, changing, memory_answer, number_bytes, reading_part, replacing, Tally, seen_of, with_seen}
+use Rattle.std.proofs.Common.{◌*◌, ◌^◌}
 use Rattle.mr_base.specs.declared.reached.Reached.{Reached}
-use Rattle.mr_base.specs.declared.byte.Pointer.{Pointer}
-use Rattle.mr_base.specs.declared.reason.Reason.{Reason}
 use Rattle.mr_base.specs.declared.reached.Reaching.{Reaching}
-use Rattle.mr_base.specs.declared.reached.Reaching.TheVariants.{Changes}
-use Rattle.mr_base.specs.declared.byte.AbstractByte.{AbstractByte}
 use Rattle.mr_base.specs.Stops.{reached_by}
-use Rattle.mr_mem.specs.Memory.{Memory, freed, read, written}
 use Rattle.mr_eval.proofs.ReadLength.{IsWhere, read_length}
-use Rattle.mr_base.specs.Script.{Done, Undefined, IllFormed, Ask, ◌>>=◌, Outcome, Went, Refused, Broken, on, run}
 use Rattle.mr_base.proofs.ScriptRuns.{safe_bind}
 use Rattle.mr_eval.specs.ValueNumbers.{number_of}
 use Rattle.mr_eval.proofs.ValueDecodeShape.{number_fits}
-use Rattle.mr_eval.specs.Reads.{ReadQuery, ReadScript, Seen, accessing, answered, lending, reading, seeing, touching}
-use Rattle.mr_eval.specs.MemoryQueries.{Allocate, Free, MemoryQuery, MemoryScript, Modify, Reading, Write, changing, memory_answer, modifying, number_bytes, reading_part, replacing}
+use Rattle.mr_eval.specs.Reads.{ReadQuery, lending}
+use Rattle.mr_eval.specs.MemoryQueries.{modifying}
 use Rattle.mr_eval.specs.Sound.{Comes, Good, IsSafe, any_result}
 use Rattle.mr_eval.specs.Stores.{storing}
-use Rattle.mr_eval.specs.Tally.{Tally, seen_of, with_seen}
 use Rattle.mr_eval.proofs.SafeRuns.{safe_comes}
 use Rattle.mr_plan.specs.Safety.{GoodReply, IsSafeChange}
 

@@ -1,6 +1,6 @@
 -- What a list with a part replaced has at each place.
-use Rattle.std.proofs.Common.{◌≡◌, ℕ, ◌+◌, ◌-◌, ◌<◌, ◌≤◌, ap, ◌∙◌, List, ◌++◌, length, take, drop, arith, append_assoc, length-take, slice_get}
-use Rattle.mr_base.specs.declared.byte.AbstractByte.{AbstractByte}
+use Rattle.mr_plan.proofs.Common.{◌≡◌, ℕ, ◌+◌, ◌-◌, ◌<◌, ◌≤◌, ap, ◌∙◌, List, ◌++◌, length, take, drop, arith, slice_get, AbstractByte}
+use Rattle.std.proofs.Common.{append_assoc, length-take}
 use Rattle.mr_runs.specs.Ranges.{with_range_replaced}
 use Rattle.mr_base.proofs.Lists.{slice_get-drop, slice_get-append_left, slice_get-append_right, slice_get-take}
 

@@ -1,23 +1,9 @@
 -- What runs of scripts over memory do to storage on the stack.
-use Rattle.std.proofs.Common.{◌≡◌, ◌≢◌, ℕ, zero, suc, ◌<◌, refl, sym, ap, ◌∙◌, subst, List, [], ◌∷◌, ◌++◌, arith, ◌⊎◌, inl, inr, Some, None, Contains}
-use Rattle.std.proofs.lemmas.Bool.{both_ways}
+use Rattle.mr_plan.proofs.Common.{◌≡◌, ◌≢◌, ℕ, zero, suc, ◌<◌, refl, sym, ap, ◌∙◌, subst, List, [], ◌∷◌, ◌++◌, arith, ◌⊎◌, inl, inr, Some, None, Contains, both_ways, Contains-push_cases, same_Some, slice_get, slice_set, Uninit, AllocId, Kind, Function, Heap, Stack, Static, Pointer, Allocation, Memory, allocated, fresh, kind_number, get_here, get_there, Done, Undefined, IllFormed, Ask, ◌>>=◌, Went, run, goes_on, same_state, Allocate, Free, MemoryQuery, MemoryReply, MemoryScript, Modify, Reading, Write, memory_answer, next_id, Tally, AreHeld, Slot}
 use Rattle.std.proofs.lemmas.List.{length-replicate}
-use Rattle.std.proofs.lemmas.List.Elements.{Contains-push_cases}
-use Rattle.std.proofs.lemmas.Option.{same_Some}
-use Rattle.std.specs.Prelude.{slice_get, slice_set}
+use Rattle.mr_eval.specs.MemoryQueries.{pointer_to}
+use Rattle.mr_plan.specs.Storage.{IsStorage}
 use Rattle.std.specs.FinMap as fin
-use Rattle.mr_base.specs.declared.byte.AbstractByte.TheVariants.{Uninit}
-use Rattle.mr_base.specs.declared.byte.AllocId.{AllocId}
-use Rattle.mr_base.specs.declared.byte.Kind.{Kind}
-use Rattle.mr_base.specs.declared.byte.Kind.TheVariants.{Function, Heap, Stack, Static}
-use Rattle.mr_base.specs.declared.byte.Pointer.{Pointer}
-use Rattle.mr_mem.specs.Memory.{Allocation, Memory, allocated, fresh, kind_number}
-use Rattle.mr_mem.proofs.Identities.{get_here, get_there}
-use Rattle.mr_base.specs.Script.{Done, Undefined, IllFormed, Ask, ◌>>=◌, Went, run}
-use Rattle.mr_base.proofs.ScriptSwaps.{goes_on, same_state}
-use Rattle.mr_eval.specs.MemoryQueries.{Allocate, Free, MemoryQuery, MemoryReply, MemoryScript, Modify, Reading, Write, memory_answer, next_id, pointer_to}
-use Rattle.mr_eval.specs.Tally.{Tally}
-use Rattle.mr_plan.specs.Storage.{AreHeld, IsStorage, Slot}
 use Rattle.mr_plan.proofs.FreeLaws.{Frees, free_kind, frees}
 use Rattle.mr_plan.proofs.Headers.{lasting_same}
 use Rattle.mr_plan.proofs.LiveFacts.{Lives, query_live}

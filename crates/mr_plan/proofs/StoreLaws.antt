@@ -1,18 +1,13 @@
 -- A store puts bytes into an allocation: what that makes of its header, and of its bytes at each address.
-use Rattle.std.proofs.Common.{◌≡◌, ℕ, ◌+◌, ◌-◌, ◌<◌, ◌≤◌, refl, sym, ap, ◌∙◌, List, inl, inr, Option, Some, None, Result, Ok, Err, Bool, true, false, cond, length, arith, ◌==◌, slice_get}
-use Rattle.std.proofs.lemmas.Bool.{cases_lt, le-leb, lt-leb}
-use Rattle.std.specs.FinMap as fin
-use Rattle.mr_base.specs.declared.byte.AbstractByte.{AbstractByte}
-use Rattle.mr_base.specs.declared.byte.AllocId.{AllocId}
-use Rattle.mr_base.specs.declared.byte.Pointer.{Pointer}
-use Rattle.mr_base.specs.declared.reason.Reason.{Reason}
+use Rattle.mr_plan.proofs.Common.{◌≡◌, ℕ, ◌+◌, ◌-◌, ◌<◌, ◌≤◌, refl, sym, ap, ◌∙◌, List, inl, inr, Option, Some, None, Result, Ok, Err, Bool, true, false, cond, length, arith, ◌==◌, slice_get, cases_lt, le-leb, AbstractByte, AllocId, Pointer, Reason, Allocation, Memory, aligned, found, inside, then_give, written, byte_at, header_of}
+use Rattle.std.proofs.lemmas.Bool.{lt-leb}
 use Rattle.mr_base.specs.declared.reason.Reason.TheVariants.{NoProvenance}
-use Rattle.mr_mem.specs.Memory.{Allocation, Memory, aligned, found, inside, put_at, then_give, written}
-use Rattle.mr_plan.specs.Places.{byte_at, header_of}
-use Rattle.mr_plan.proofs.Headers.{like_header}
-use Rattle.mr_plan.proofs.RangeChecks.{by_tests, range_test, ranged}
+use Rattle.mr_mem.specs.Memory.{put_at}
 use Rattle.mr_runs.specs.Ranges.{with_range_replaced}
 use Rattle.mr_runs.proofs.RangeLaws.{length-with_range_replaced}
+use Rattle.std.specs.FinMap as fin
+use Rattle.mr_plan.proofs.Headers.{like_header}
+use Rattle.mr_plan.proofs.RangeChecks.{by_tests, range_test, ranged}
 use Rattle.mr_plan.proofs.SplicedLaws.{spliced_above, spliced_below, spliced_in}
 
 -- ---- bytes by their addresses

@@ -1,19 +1,9 @@
 -- Of a query to memory the tally only grows.
-use Rattle.std.proofs.Common.{◌≡◌, ℕ, ◌≤◌, refl, sym, ap, ◌∙◌, subst, Option, List, [], ◌∷◌, ◌++◌, append-nil, arith, inl, inr, Any, Contains, true}
+use Rattle.mr_plan.proofs.Common.{◌≡◌, ℕ, ◌≤◌, refl, sym, ap, ◌∙◌, subst, Option, List, [], ◌∷◌, ◌++◌, append-nil, arith, inl, inr, Any, Contains, true, Contains-append_left, Access, AllocId, Went, Memory, Check, Read, Refer, seeing, Pointer, Allocate, Free, Modify, MemoryQuery, MemoryReply, Reading, Write, memory_answer, Tally, seen_of, with_seen, ByteAt, Covers, HeaderOf, MemoryPlace, ReadsMemory, StoresAt, WritesMemory}
 use Rattle.std.proofs.lemmas.List.{append_assoc}
-use Rattle.std.proofs.lemmas.List.Elements.{Contains-append_left}
-use Rattle.mr_base.specs.declared.access.Access.{Access}
-use Rattle.mr_base.specs.declared.byte.AllocId.{AllocId}
-use Rattle.mr_base.specs.Script.{Went}
-use Rattle.mr_mem.specs.Memory.{Memory}
-use Rattle.mr_eval.specs.Reads.{Check, Read, Refer, seeing}
-use Rattle.mr_base.specs.declared.byte.Pointer.{Pointer}
-use Rattle.mr_eval.specs.MemoryQueries.{Allocate, Free, Modify, MemoryQuery, MemoryReply, Reading, Write, memory_answer}
-use Rattle.mr_eval.specs.Tally.{Tally, seen_of, with_seen}
-use Rattle.mr_plan.specs.Places.{ByteAt, Covers, HeaderOf, MemoryPlace, ReadsMemory, StoresAt, WritesMemory}
+use Rattle.mr_base.proofs.Lists.{Any-append_left}
 use Rattle.mr_plan.proofs.MemoryAnswers.{Modifies, Replaces, changes, check_went, free_went, load_went, modify_went, refer_went, stays, store_went, with_freed, with_load, with_made}
 use Rattle.mr_plan.proofs.WentLaws.{at_outcome}
-use Rattle.mr_base.proofs.Lists.{Any-append_left}
 
 -- with more at its end
 abbrev pub Longer : {A : Type 0} → List A → List A → Type 0

@@ -1,8 +1,5 @@
 -- What is known where a run went on.
-use Rattle.std.proofs.Common.{◌≡◌, refl, subst, Result, Ok, Err}
-use Rattle.mr_base.specs.declared.reason.Reason.{Reason}
-use Rattle.mr_base.specs.Script.{Outcome, Went}
-use Rattle.mr_base.proofs.ScriptSwaps.{same_state, same_value}
+use Rattle.mr_plan.proofs.Common.{◌≡◌, refl, subst, Result, Ok, Err, Reason, Outcome, Went, same_state, same_value}
 
 -- what holds at the values of one outcome holds at those of another that is the same
 pub at_outcome : {A W : Type 0} {a b : A} {v w : W} → Went a v ≡ Went b w → (C : A → W → Type 0) → C a v → C b w

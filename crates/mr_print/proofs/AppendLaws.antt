@@ -1,13 +1,12 @@
 -- Words and lines that are written one behind the other.
+use Rattle.mr_print.proofs.Common.{◌≡◌, ℕ, List, [], ◌∷◌, ◌++◌, map, take, length, ap, ◌∙◌, arith, flat_map, codes, with_commas, with_word, with_words, with_last, with_line, with_lines}
 use Rattle.std.proofs.lemmas.Bool.Decides.{nat_tests}
-use Rattle.std.proofs.Common.{◌≡◌, ℕ, suc, ◌+◌, ◌<◌, List, [], ◌∷◌, ◌++◌, map, take, length, get_or, refl, sym, ap, ◌∙◌, append_assoc, append-nil, arith}
-use Rattle.std.specs.Prelude.{flat_map, codes}
+use Rattle.std.proofs.Common.{suc, ◌+◌, ◌<◌, get_or, refl, sym, append_assoc, append-nil}
 use Rattle.std.proofs.lemmas.List.{flat_map_more, length-map, length-take-le, map_more, take_all, take_more}
 use Rattle.std.proofs.lemmas.List.Concat.{flat_map-append}
 use Rattle.mr_ast.specs.Words.{Texts}
-use Rattle.mr_ast.specs.CanonTypes.{with_commas}
 use Rattle.mr_ast.specs.Canon.{text_of_line, text_of_lines}
-use Rattle.mr_print.specs.Appends.{with_word, with_words, with_last, with_line, with_lines, comma_at}
+use Rattle.mr_print.specs.Appends.{comma_at}
 
 -- ---- words
 

@@ -1,4 +1,5 @@
 pub mod AppendLaws
+mod Common
 pub mod ProgramLaws
 pub mod TypeLaws
 pub mod ValueLaws

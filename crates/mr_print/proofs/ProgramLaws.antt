@@ -1,15 +1,12 @@
 -- What is written of globals, functions and programs, piece by piece.
-use Rattle.std.proofs.Common.{◌≡◌, ℕ, List, map}
+use Rattle.mr_print.proofs.Common.{◌≡◌, ℕ, List, map, codes, decimal, flat_map, with_commas, texts_in, words_of_term, words_of_item, global_line, argument_words, local_words, stmt_line, block_lines, function_lines, with_word, with_words, with_last, with_line, with_lines}
 use Rattle.std.proofs.lemmas.List.{take_all}
-use Rattle.std.specs.Prelude.{codes, decimal, flat_map}
 use Rattle.mr_ast.specs.declared.program.Block.{Block}
 use Rattle.mr_ast.specs.declared.program.Function.{Function}
 use Rattle.mr_ast.specs.declared.program.Global_.{Global_}
 use Rattle.mr_ast.specs.declared.program.Program.{Program}
-use Rattle.mr_ast.specs.CanonTypes.{with_commas}
 use Rattle.mr_ast.specs.CanonValues.{text_at}
-use Rattle.mr_ast.specs.Canon.{local_texts, texts_in, kind_word, words_of_term, words_of_item, global_line, argument_words, head_line, local_words, locals_line, stmt_line, block_lines, function_lines, header_line, main_line, lines_of}
-use Rattle.mr_print.specs.Appends.{with_word, with_words, with_last, with_line, with_lines}
+use Rattle.mr_ast.specs.Canon.{local_texts, kind_word, head_line, locals_line, header_line, main_line, lines_of}
 use Rattle.mr_print.proofs.AppendLaws.{with_words-none, line_laws, lines_laws}
 
 pub written_global : (old : List ℕ) (p : Program) (g : Global_) → with_line old (global_line p g)

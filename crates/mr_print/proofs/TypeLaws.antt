@@ -1,14 +1,14 @@
 -- What is written of types, step by step.
-use Rattle.std.proofs.Common.{◌≡◌, ℕ, true, false, List, [], ◌∷◌, ◌++◌, length, map, ap, ◌∙◌}
-use Rattle.std.specs.Prelude.{codes, decimal, if◌then◌else◌}
+use Rattle.mr_print.proofs.Common.{◌≡◌, ℕ, List, [], ◌∷◌, ◌++◌, length, map, ap, ◌∙◌, codes, decimal, int_word, words_of_type, field_words, variant_words, with_word, with_words}
+use Rattle.std.proofs.Common.{true, false}
+use Rattle.std.specs.Prelude.{if◌then◌else◌}
 use Rattle.mr_ast.specs.declared.types.IntType.{IntType}
 use Rattle.mr_ast.specs.declared.types.Tree.{Tree}
 use Rattle.mr_ast.specs.declared.types.Ty.{Ty}
-use Rattle.mr_ast.specs.declared.types.Ty.TheVariants as ty
 use Rattle.mr_ast.specs.declared.types.Variant.{Variant}
-use Rattle.mr_ast.specs.CanonTypes.{braced, shape_words, int_word, is_unit, words_of_tree, words_of_type, field_words, variant_words}
+use Rattle.mr_ast.specs.CanonTypes.{braced, shape_words, is_unit, words_of_tree}
 use Rattle.mr_ast.proofs.CanonTypeLaws.{words_known, words_invalid, words_branch, words_int_type, words_bool, words_raw_type, words_fn_ptr, words_ref, words_tuple_type, words_array, words_union_type, words_enum}
-use Rattle.mr_print.specs.Appends.{with_word, with_words}
+use Rattle.mr_ast.specs.declared.types.Ty.TheVariants as ty
 use Rattle.mr_print.proofs.AppendLaws.{word_laws}
 
 -- the tuple with a word of its own, and any other

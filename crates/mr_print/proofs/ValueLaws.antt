@@ -1,18 +1,16 @@
 -- What is written of places and values, piece by piece.
-use Rattle.std.proofs.Common.{◌≡◌, ℕ, List, [], ◌∷◌}
-use Rattle.std.specs.Prelude.{codes, decimal, flat_map}
+use Rattle.mr_print.proofs.Common.{◌≡◌, ℕ, List, [], ◌∷◌, codes, decimal, flat_map, int_word, words_of_type, words_of_value, with_word, with_words}
 use Rattle.mr_ast.specs.declared.types.IntType.{IntType}
 use Rattle.mr_ast.specs.declared.types.Num.{Num}
 use Rattle.mr_ast.specs.declared.types.Ty.{Ty}
 use Rattle.mr_ast.specs.declared.expr.UnaryOp.{UnaryOp}
 use Rattle.mr_ast.specs.declared.expr.Place.{Place}
 use Rattle.mr_ast.specs.declared.expr.Value.{Value}
+use Rattle.mr_ast.specs.CanonTypes.{num_words}
+use Rattle.mr_ast.specs.CanonValues.{NameTexts, unary_word, words_of_place}
+use Rattle.mr_ast.proofs.CanonValueLaws.{words_local, words_deref, words_field, words_index, words_variant_place, words_int, words_true, words_false, words_raw, words_fn, words_global, words_tuple, words_union, words_variant, words_load, words_disc, words_addr_of, words_cast, words_transmute, words_unary, words_binary}
 use Rattle.mr_ast.specs.declared.expr.Place.TheVariants as place
 use Rattle.mr_ast.specs.declared.expr.Value.TheVariants as value
-use Rattle.mr_ast.specs.CanonTypes.{int_word, num_words, words_of_type}
-use Rattle.mr_ast.specs.CanonValues.{NameTexts, unary_word, words_of_place, words_of_value}
-use Rattle.mr_ast.proofs.CanonValueLaws.{words_local, words_deref, words_field, words_index, words_variant_place, words_int, words_true, words_false, words_raw, words_fn, words_global, words_tuple, words_union, words_variant, words_load, words_disc, words_addr_of, words_cast, words_transmute, words_unary, words_binary}
-use Rattle.mr_print.specs.Appends.{with_word, with_words}
 use Rattle.mr_print.proofs.AppendLaws.{word_laws}
 
 module _ (names : NameTexts) where

@@ -1,2 +1,3 @@
+mod Common
 pub mod StandLaws
 pub mod ToldLaws

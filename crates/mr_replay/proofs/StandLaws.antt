@@ -1,20 +1,17 @@
 -- What a machine answers of its threads, by the state in which it stands.
-use Rattle.std.proofs.Common.{◌≡◌, ℕ, ◌∙◌, ap, refl, sym, Bool, true, false, if◌then◌else◌, List, [], Option, Some, None}
-use Rattle.std.specs.Prelude.{slice_get, length, IfOk, Result, Ok, Err}
+use Rattle.mr_replay.proofs.Common.{◌≡◌, ℕ, ◌∙◌, ap, refl, sym, Bool, false, if◌then◌else◌, List, [], Option, Some, None, slice_get, length, IfOk, Result, Ok, Err, State, needs, Own, thread_step, asks_at, stand_of}
+use Rattle.std.proofs.Common.{true}
 use Rattle.std.specs.Option.{option_map}
 use Rattle.mr_base.specs.declared.thread.Status.{Status}
 use Rattle.mr_frame.specs.Frames.{Look}
 use Rattle.mr_frame.specs.declared.stack.At.{At}
-use Rattle.mr_frame.specs.PlanMachine.{State, needs}
 use Rattle.mr_frame.specs.PlanQueries.{tables_of}
 use Rattle.mr_frame.specs.PlanRuns.{Config}
 use Rattle.mr_sched.specs.declared.schedule.Ask.{Ask}
 use Rattle.mr_step.specs.Standing.{place_in}
 use Rattle.mr_step.proofs.EntryLaws.{enabled_is}
 use Rattle.mr_step.specs.SyncTables.{IsEnabled, is_enabled}
-use Rattle.mr_step.specs.ThreadSteps.{Own, thread_step}
-use Rattle.mr_replay.specs.Told.{asks_at, asks_from, stand_from, stand_of, stand_with, status_from, status_of}
-use Rattle.mr_replay.specs.Told.{threads_from}
+use Rattle.mr_replay.specs.Told.{asks_from, stand_from, stand_with, status_from, status_of, threads_from}
 
 module _ (c : Config Own) (t : ℕ) where
   -- where it stands

@@ -1,33 +1,28 @@
 -- Entries that are taken one after another, and what their steps tell.
-use Rattle.std.proofs.Common.{◌≡◌, ℕ, zero, suc, ◌+◌, ◌<◌, ◌≤◌, ◌∙◌, ap, ap₂, sym, subst, refl, arith, List, [], ◌∷◌, ◌++◌}
-use Rattle.std.proofs.Common.{append-nil, append_assoc, get_or, length, take}
+use Rattle.mr_replay.proofs.Common.{◌≡◌, ℕ, ◌≤◌, ◌∙◌, ap, ap₂, sym, subst, refl, arith, List, [], ◌∷◌, ◌++◌, length, if◌then◌else◌, Bool, false, OnOk, Result, Ok, Err, Option, None, Some, flat_map, map, slice_get, range_with_len, Entry, Own, thread_step, ToldStep, step_rows, asks_at, if_between, stand_of}
+use Rattle.std.proofs.Common.{zero, suc, ◌+◌, ◌<◌, append-nil, append_assoc, get_or, take}
 use Rattle.std.proofs.lemmas.List.{flat_map_more, map_push}
 use Rattle.std.proofs.lemmas.Option.{slice_get_read}
-use Rattle.std.specs.Prelude.{if◌then◌else◌, Bool, false, OnOk, Result, Ok, Err, Option, None, Some, flat_map, map, option_to_list, slice_get}
-use Rattle.std.specs.List.{range_with_len}
+use Rattle.std.specs.Prelude.{option_to_list}
 use Rattle.mr_ast.specs.declared.program.Program.{Program}
 use Rattle.mr_base.specs.declared.byte.AllocId.{AllocId}
 use Rattle.mr_frame.specs.Frames.{Look}
 use Rattle.mr_frame.specs.PlanMachine.{Language}
 use Rattle.mr_frame.specs.PlanRuns.{Config, after, machine_step}
-use Rattle.mr_sched.specs.declared.schedule.Entry.{Entry}
 use Rattle.mr_sched.specs.declared.schedule.Schedule.{Schedule}
 use Rattle.mr_step.specs.StartRuns.{program_step}
 use Rattle.mr_step.specs.Answers.{StartAnswer}
 use Rattle.mr_step.specs.Standing.{Standing}
 use Rattle.mr_run.specs.Runs.{IsMade}
-use Rattle.mr_step.specs.ThreadSteps.{Own, thread_step}
 use Rattle.mr_labels.specs.declared.names.Name.{Name}
 use Rattle.mr_labels.specs.declared.rows.Allocation.{Allocation}
 use Rattle.mr_labels.specs.declared.step.Stand.{Stand}
-use Rattle.mr_labels.specs.declared.step.ToldStep.{ToldStep}
 use Rattle.mr_labels.specs.Names.{made_names}
-use Rattle.mr_labels.specs.Table.{made_rows, row_at, row_of, step_rows}
+use Rattle.mr_labels.specs.Table.{made_rows, row_at, row_of}
 use Rattle.mr_labels.proofs.Growing.{appended_next}
 use Rattle.mr_replay.specs.declared.telling.Between.{Between}
 use Rattle.mr_replay.specs.Stands.{stand_before}
-use Rattle.mr_replay.specs.Told.{asks_at, if_between, is_between, stand_of, told_at, told_first, told_of, told_step}
-use Rattle.mr_replay.specs.Told.{told_steps, unless_none}
+use Rattle.mr_replay.specs.Told.{is_between, told_at, told_first, told_of, told_step, told_steps, unless_none}
 
 -- what holds where nothing failed
 pub where_ok : {A E X : Type 0} (r : Result A E) → X → OnOk r X

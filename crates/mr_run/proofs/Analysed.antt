@@ -1,10 +1,10 @@
 -- What is known of a run with one step more.
-use Rattle.std.proofs.Common.{◌≡◌, ℕ, zero, suc, ◌+◌, ◌-◌, ◌≤◌, refl, sym, ap, ◌∙◌, subst, arith, List, [], ◌∷◌, ◌++◌, take, length, length-append, append-nil, Option, Some, None}
+use Rattle.mr_run.proofs.Common.{◌≡◌, ℕ, zero, suc, ◌+◌, ◌≤◌, refl, sym, ap, ◌∙◌, subst, arith, List, [], ◌∷◌, ◌++◌, length, length-append, append-nil, Option, Some, None, Tracks, Footprint}
+use Rattle.std.proofs.Common.{◌-◌, take}
 use Rattle.std.proofs.Math.Seq.{take-append_seam}
 use Rattle.std.proofs.lemmas.List.{get_or_append_left}
 use Rattle.std.specs.Prelude.{MatchOption}
-use Rattle.mr_clocks.specs.Tracked.{Seen, Tracks}
-use Rattle.mr_event.specs.Footprint.{Footprint}
+use Rattle.mr_clocks.specs.Tracked.{Seen}
 use Rattle.mr_event.specs.declared.footprint.Pair.{Pair}
 use Rattle.mr_event.specs.Order.{HasNoPartner, IsGreatestPartner, no_step}
 use Rattle.mr_event.specs.Predicted.{greatest_below, pair_with, predicted, predicted_below, race_pair}

@@ -1,15 +1,10 @@
 -- What the step of an entry comes to of which no footprint is handed out, and what stands behind it.
-use Rattle.std.proofs.Common.{◌≡◌, ◌≤◌, arith, sym, ap, ◌∙◌, subst, [], ◌∷◌, length, false, Some, None, Ok, Err}
-use Rattle.mr_event.specs.Footprint.{Footprint}
-use Rattle.mr_sched.specs.declared.schedule.Entry.{Entry}
-use Rattle.mr_step.specs.StartRuns.{program_step}
+use Rattle.mr_run.proofs.Common.{◌≡◌, ◌≤◌, arith, sym, ap, ◌∙◌, subst, [], ◌∷◌, length, false, Some, None, Ok, Err, Footprint, Entry, program_step, Standing, EntryAnswer, IsMade, foot_by}
 use Rattle.mr_step.specs.declared.fault.StepFault.{StepFault}
-use Rattle.mr_step.specs.declared.fault.StepFault.TheVariants as answer
 use Rattle.mr_step.specs.declared.fault.Turn.{Turn}
 use Rattle.mr_step.specs.Answers.{GoAnswer, Hands, completed, stopped}
-use Rattle.mr_step.specs.Standing.{Standing}
 use Rattle.mr_step.proofs.EntryLaws.{Left, left_by, made, none}
-use Rattle.mr_run.specs.Runs.{EntryAnswer, IsMade, foot_by}
+use Rattle.mr_step.specs.declared.fault.StepFault.TheVariants as answer
 
 -- what the step of an entry leaves of footprints
 left_behind : (e : Entry) (old new : Standing) → new ≡ record { look = old.look; failed = false; config = program_step old.look old.config e } → Left old.config (foot_by e old) new.config

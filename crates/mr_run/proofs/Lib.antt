@@ -1,4 +1,5 @@
 pub mod Analysed
+mod Common
 pub mod EntryLaws
 pub mod OneThread
 pub mod Places

@@ -1,24 +1,16 @@
 -- A run of thread 0 alone shows no race.
-use Rattle.std.proofs.Common.{◌≡◌, ℕ, zero, suc, refl, sym, ap, ◌∙◌, arith, Bool, true, false, not, List, [], ◌∷◌, ◌++◌, length, Option, Some, None}
+use Rattle.mr_run.proofs.Common.{◌≡◌, ℕ, zero, suc, refl, sym, ap, ◌∙◌, arith, false, List, [], ◌∷◌, ◌++◌, length, Option, Some, None, Program, Footprint, Look, Config, feet, foot_from, foot_of_bare, machine_step, Entry, Schedule, steps_of, look_of, start_config, Own, thread_step}
+use Rattle.std.proofs.Common.{Bool, true, not}
 use Rattle.std.proofs.lemmas.Bool.Decides.{nat_tests}
 use Rattle.std.specs.List.{list_all}
 use Rattle.std.specs.Prelude.{◌==◌, ◌&&◌, nat_lt, cond}
-use Rattle.mr_ast.specs.declared.program.Program.{Program}
 use Rattle.mr_base.specs.Accesses.{some_race}
-use Rattle.mr_event.specs.Footprint.{Footprint}
-use Rattle.mr_event.specs.Order as order
 use Rattle.mr_event.specs.Order.{step_at, thread_at}
 use Rattle.mr_event.specs.Predicted.{greatest_below, happens_before, pair_with, predicted, predicted_below, race_pair}
 use Rattle.mr_step.proofs.ExchangeLaw.{thread_noted}
-use Rattle.mr_step.specs.FrameFrames.{Look}
 use Rattle.mr_step.specs.PlanMachine.{Bare, Completed, IllFormedStep, State, Stops, bare}
-use Rattle.mr_step.specs.PlanRuns.{Config, feet, foot_from, foot_of_bare, machine_step}
-use Rattle.mr_sched.specs.declared.schedule.Entry.{Entry}
-use Rattle.mr_sched.specs.declared.schedule.Schedule.{Schedule}
-use Rattle.mr_step.specs.StartRuns.{steps_of}
-use Rattle.mr_step.specs.StartStart.{look_of, start_config}
-use Rattle.mr_step.specs.ThreadSteps.{Own, thread_step}
 use Rattle.mr_run.specs.Runs.{are_of_first}
+use Rattle.mr_event.specs.Order as order
 
 -- all steps are of thread 0
 abbrev pub are_alone : List Footprint → Bool

@@ -1,20 +1,12 @@
 -- The first rule that a schedule breaks has a place of the schedule.
-use Rattle.std.proofs.Common.{◌≡◌, ℕ, suc, ◌+◌, ◌≤◌, ◌<◌, subst, arith, refl, inl, inr, List, [], ◌∷◌, length}
-use Rattle.std.specs.Prelude.{Some, None, Option, Err}
-use Rattle.mr_ast.specs.declared.program.Program.{Program}
-use Rattle.mr_sched.specs.declared.schedule.Entry.{Entry}
-use Rattle.mr_sched.specs.declared.schedule.Schedule.{Schedule}
+use Rattle.mr_run.proofs.Common.{◌≡◌, ℕ, suc, ◌+◌, ◌≤◌, ◌<◌, subst, arith, refl, List, [], ◌∷◌, length, Some, None, Option, Err, Program, Entry, Schedule, Config, Look, Own, PlacedFault, at_line, entries_fault, program_fault, program_step, schedule_fault, look_of, start_config, Standing, RunAnswer}
+use Rattle.std.proofs.Common.{inl, inr}
 use Rattle.mr_step.specs.PlanLegal.{Fault}
-use Rattle.mr_step.specs.PlanRuns.{Config}
-use Rattle.mr_step.specs.FrameFrames.{Look}
-use Rattle.mr_step.specs.ThreadSteps.{Own}
-use Rattle.mr_step.specs.StartRuns.{PlacedFault, at_line, entries_fault, program_fault, program_step, schedule_fault}
-use Rattle.mr_step.specs.StartStart.{look_of, start_config, start_fault}
+use Rattle.mr_step.specs.StartStart.{start_fault}
 use Rattle.mr_step.specs.Answers.{fault_of}
-use Rattle.mr_step.specs.Standing.{Standing}
 use Rattle.mr_run.specs.declared.fault.RunFault.{RunFault}
 use Rattle.mr_run.specs.declared.fault.RunFault.TheVariants.{Broken, Memory}
-use Rattle.mr_run.specs.Runs.{HasPlace, IsPlace, RunAnswer}
+use Rattle.mr_run.specs.Runs.{HasPlace, IsPlace}
 
 -- a fault stands at one of so many places
 abbrev IsAmong : ℕ → ℕ → Option PlacedFault → Type 0

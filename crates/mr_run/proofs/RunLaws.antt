@@ -1,25 +1,18 @@
 -- Entries that are taken one after another, and the whole run.
-use Rattle.std.proofs.Common.{◌≡◌, ℕ, ◌+◌, refl, sym, ap, ap₂, ◌∙◌, subst, List, [], ◌∷◌, ◌++◌, false, suc, ◌<◌, ◌≤◌, arith, drop, length, length-append, append-nil, append_assoc}
+use Rattle.mr_run.proofs.Common.{◌≡◌, ℕ, ◌+◌, refl, sym, ap, ◌∙◌, subst, List, [], ◌∷◌, ◌++◌, false, suc, ◌<◌, ◌≤◌, arith, length, length-append, append-nil, Some, None, Option, Ok, Err, Program, Footprint, Entry, Schedule, AreLegal, Config, feet, foot_from, Look, Own, thread_step, PlacedFault, at_line, entries_fault, program_fault, program_step, schedule_fault, steps_of, look_of, start_config, Standing, EntryAnswer, IsMade, RunAnswer, foot_by, placed}
+use Rattle.std.proofs.Common.{ap₂, drop, append_assoc}
 use Rattle.std.proofs.Math.Seq.{drop-cons}
-use Rattle.std.specs.Prelude.{get_or, Some, None, Option, Ok, Err}
-use Rattle.mr_ast.specs.declared.program.Program.{Program}
-use Rattle.mr_event.specs.Footprint.{Footprint}
-use Rattle.mr_sched.specs.declared.schedule.Entry.{Entry}
-use Rattle.mr_sched.specs.declared.schedule.Schedule.{Schedule}
+use Rattle.std.specs.Prelude.{get_or}
 use Rattle.mr_step.specs.PlanLegal.{Fault}
-use Rattle.mr_step.specs.PlanRuns.{AreLegal, Config, after, feet, foot_from}
+use Rattle.mr_step.specs.PlanRuns.{after}
 use Rattle.mr_step.proofs.PlanRunLaws.{completed_by_step}
-use Rattle.mr_step.specs.FrameFrames.{Look}
-use Rattle.mr_step.specs.ThreadSteps.{Own, thread_step}
-use Rattle.mr_step.specs.StartRuns.{PlacedFault, at_line, entries_fault, program_fault, program_step, run_of, schedule_fault, steps_of}
-use Rattle.mr_step.specs.StartStart.{look_of, start_config}
+use Rattle.mr_step.specs.StartRuns.{run_of}
 use Rattle.mr_step.specs.declared.fault.StepFault.{StepFault}
-use Rattle.mr_step.specs.declared.fault.StepFault.TheVariants as answer
 use Rattle.mr_step.specs.Answers.{StartAnswer, fault_of}
-use Rattle.mr_step.specs.Standing.{Standing}
 use Rattle.mr_run.specs.declared.fault.RunFault.{RunFault}
 use Rattle.mr_run.specs.declared.fault.RunFault.TheVariants.{Broken, Memory}
-use Rattle.mr_run.specs.Runs.{AreTaken, EntriesAnswer, EntryAnswer, IsMade, RunAnswer, foot_by, placed}
+use Rattle.mr_run.specs.Runs.{AreTaken, EntriesAnswer}
+use Rattle.mr_step.specs.declared.fault.StepFault.TheVariants as answer
 use Rattle.mr_run.proofs.EntryLaws.{one_foot}
 
 -- What stays true: the machine works, and what is left leads from where it stands to where all entries lead.

@@ -1,14 +1,8 @@
 -- How many steps a run completes.
-use Rattle.std.proofs.Common.{◌≡◌, suc, ◌+◌, ◌≤◌, refl, ap, arith, List, [], ◌∷◌, ◌++◌, length, Option, Some, None}
-use Rattle.mr_ast.specs.declared.program.Program.{Program}
-use Rattle.mr_step.specs.FrameFrames.{Look}
+use Rattle.mr_run.proofs.Common.{◌≡◌, suc, ◌+◌, ◌≤◌, refl, ap, arith, List, [], ◌∷◌, ◌++◌, length, Option, Some, None, Program, Look, AreLegal, Config, feet, foot_from, foot_of_bare, machine_step, Entry, Schedule, steps_of, look_of, start_config, Own, thread_step}
 use Rattle.mr_step.specs.PlanMachine.{Bare, Completed, IllFormedStep, State, Stops, bare}
-use Rattle.mr_step.specs.PlanRuns.{AreLegal, Config, after_bare, feet, foot_from, foot_of_bare, machine_step, stepped_from}
-use Rattle.mr_sched.specs.declared.schedule.Entry.{Entry}
-use Rattle.mr_sched.specs.declared.schedule.Schedule.{Schedule}
-use Rattle.mr_step.specs.StartRuns.{Legal, steps_of}
-use Rattle.mr_step.specs.StartStart.{look_of, start_config}
-use Rattle.mr_step.specs.ThreadSteps.{Own, thread_step}
+use Rattle.mr_step.specs.PlanRuns.{after_bare, stepped_from}
+use Rattle.mr_step.specs.StartRuns.{Legal}
 use Rattle.mr_witness.proofs.Lists.{feet_length}
 use Rattle.mr_witness.proofs.Recorded.{none_legal}
 

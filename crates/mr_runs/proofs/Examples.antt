@@ -1,11 +1,6 @@
 -- Small lists: bytes in pieces, a range replaced, and windows of pieces.
-use Rattle.std.proofs.Common.{◌≡◌, ℕ, List, [], ◌∷◌, replicate, Some, None, refl, lit<}
-use Rattle.mr_base.specs.declared.byte.AllocId.{AllocId}
-use Rattle.mr_base.specs.declared.byte.AbstractByte.{AbstractByte}
-use Rattle.mr_base.specs.declared.byte.AbstractByte.TheVariants.{Uninit, Init}
-use Rattle.mr_runs.specs.Pieces.{SeenPiece, UninitPiece, InitPiece, bytes_of_pieces, AreMaximal}
-use Rattle.mr_runs.specs.Ranges.{with_range_replaced}
-use Rattle.mr_runs.specs.Windows.{first_pieces, pieces_past}
+use Rattle.mr_runs.proofs.Common.{◌≡◌, ℕ, List, [], ◌∷◌, replicate, Some, None, refl, AllocId, AbstractByte, Uninit, Init, SeenPiece, UninitPiece, InitPiece, bytes_of_pieces, AreMaximal, with_range_replaced, first_pieces, pieces_past}
+use Rattle.std.proofs.Common.{lit<}
 
 abbrev owner : AllocId
 owner = record { thread = 1; count = 7 }

@@ -1,18 +1,10 @@
 -- A row of pieces put in place of others: step by step, and what it makes of the bytes.
-use Rattle.std.proofs.Common.{◌≡◌, ℕ, ◌+◌, ◌-◌, ◌<◌, ◌≤◌, ◌⊎◌, Bool, true, false, cond, ◌||◌, List, [], ◌∷◌, ◌++◌, length, take, drop, Some, None, Option, refl, sym, ap, ◌∙◌, subst, inl, inr, ⊎_elim, arith, append_assoc, length-append, length-drop, length-take, nat_cmp}
-use Rattle.std.specs.Prelude.{IsSome, OnOk, eqb, Result, Ok, Err}
-use Rattle.std.specs.BTreeMap.{is_at}
-use Rattle.std.specs.List.Sorted.{IsStrictlySortedBy}
-use Rattle.std.specs.Map.{keys_of, values_of}
-use Rattle.std.proofs.lemmas.Bool.{cases_eq, cases_lt, ne_eqb, or_parts}
-use Rattle.std.proofs.lemmas.List.{take-append-drop}
+use Rattle.mr_runs.proofs.Common.{◌≡◌, ℕ, ◌+◌, ◌-◌, ◌<◌, ◌≤◌, ◌⊎◌, Bool, true, false, cond, List, [], ◌∷◌, ◌++◌, length, take, drop, Some, None, Option, refl, sym, ap, ◌∙◌, subst, inl, inr, ⊎_elim, arith, append_assoc, length-append, length-drop, length-take, nat_cmp, OnOk, Result, Ok, Err, is_at, IsStrictlySortedBy, keys_of, values_of, cases_eq, cases_lt, take-append-drop, AbstractByte, Mark, begins, last_mark, first_mark, staked, unstaked, IsBegun, IsEnded, IsExchanged, IsSettled, SeenPiece, piece_len, AreMaximal, bytes_in, found, total_len, IsPlaced, IsReplaced, IsTiled, with_range_replaced}
+use Rattle.std.proofs.Common.{◌||◌}
+use Rattle.std.specs.Prelude.{IsSome, eqb}
+use Rattle.std.proofs.lemmas.Bool.{ne_eqb, or_parts}
 use Rattle.std.proofs.lemmas.List.Folds.{list_any-append}
-use Rattle.mr_base.specs.declared.byte.AbstractByte.{AbstractByte}
-use Rattle.mr_runs.specs.declared.mark.Mark.{Mark}
-use Rattle.mr_runs.specs.Exchanged.{begins, last_mark, first_mark, staked, unstaked, IsBegun, IsEnded, IsExchanged, IsRow, IsSettled}
-use Rattle.mr_runs.specs.Pieces.{SeenPiece, piece_len, AreMaximal}
-use Rattle.mr_runs.specs.Placed.{bytes_in, found, total_len, IsPlaced, IsReplaced, IsTiled}
-use Rattle.mr_runs.specs.Ranges.{with_range_replaced}
+use Rattle.mr_runs.specs.Exchanged.{IsRow}
 use Rattle.mr_runs.proofs.FindLaws.{maximal_rest, placed_rest, tiled_as, tiled_front}
 use Rattle.mr_runs.proofs.MaximalLaws.{apart_with_first, apart_with_last, first_mark-append, maximal_append, maximal_back, maximal_front, maximal_seam, AreApart}
 use Rattle.mr_runs.proofs.PlacedLaws.{bytes_in-append, length-bytes_in, none_before, none_behind, placed_append, placed_at, placed_back, placed_front, same_as_placed, total_len-append, values_of-append}

@@ -1,18 +1,12 @@
 -- Pieces found by position.
-use Rattle.std.proofs.Common.{◌≡◌, ◌≢◌, ℕ, ◌+◌, ◌-◌, ◌<◌, ◌≤◌, Bool, true, false, cond, ◌&&◌, List, [], ◌∷◌, ◌++◌, length, Some, None, refl, sym, ap, ◌∙◌, subst, ⊎_elim, arith, nat_cmp, is_gt, is_le, Ordering, Less, Equal, Greater}
-use Rattle.std.specs.Prelude.{slice_get, is_some}
-use Rattle.std.specs.BTreeMap.{is_at}
-use Rattle.std.specs.Map.{values_of}
-use Rattle.std.proofs.lemmas.Bool.{cases_lt}
+use Rattle.mr_runs.proofs.Common.{◌≡◌, ◌≢◌, ℕ, ◌+◌, ◌-◌, ◌<◌, ◌≤◌, Bool, true, false, cond, List, [], ◌∷◌, ◌++◌, length, Some, None, refl, sym, ap, ◌∙◌, subst, ⊎_elim, arith, nat_cmp, Ordering, Less, Equal, Greater, slice_get, is_at, values_of, cases_lt, same_Some, AbstractByte, SeenPiece, bytes_of_piece, piece_len, AreMaximal, begun_from, bytes_in, found, total_len, Holds, IsPlaced, IsTiled}
+use Rattle.std.proofs.Common.{◌&&◌, is_gt, is_le}
+use Rattle.std.specs.Prelude.{is_some}
 use Rattle.std.proofs.lemmas.Cmp.{ranked}
-use Rattle.std.proofs.lemmas.Option.{same_Some}
-use Rattle.mr_base.specs.declared.byte.AbstractByte.{AbstractByte}
-use Rattle.mr_runs.specs.Pieces.{SeenPiece, bytes_of_piece, piece_len, AreMaximal}
-use Rattle.mr_runs.specs.Placed.{begun_from, bytes_in, found, total_len, Holds, IsPlaced, IsTiled}
+use Rattle.mr_base.proofs.Lists.{slice_get-append_left, slice_get-append_right}
 use Rattle.mr_runs.proofs.MaximalLaws.{maximal_back, maximal_front}
 use Rattle.mr_runs.proofs.PlacedLaws.{bytes_in-append, length-bytes_in, length-bytes_of_piece, none_behind, placed_back, placed_front, total_len-append, values_of-append}
 use Rattle.mr_runs.proofs.Positions.{found_behind, found_here, found_later, same_at}
-use Rattle.mr_base.proofs.Lists.{slice_get-append_left, slice_get-append_right}
 
 pub not_greater : (q k : ℕ) → q ≤ k → is_gt (nat_cmp q k) ≡ false
 not_greater q k le = by_order (nat_cmp q k) refl

@@ -1,21 +1,7 @@
 -- A piece of bytes that grows over uninitialised ones behind it.
-use Rattle.std.proofs.Common.{◌≡◌, ◌≢◌, ℕ, ◌+◌, ◌-◌, ◌<◌, ◌≤◌, ◌⊎◌, min, Bool, true, false, cond, List, [], ◌∷◌, ◌++◌, length, take, Some, None, Option, refl, sym, ap, ◌∙◌, inl, inr, ⊎_elim, arith, length-append, length-take, nat_cmp}
-use Rattle.std.specs.BTreeMap.{is_at}
-use Rattle.std.specs.List.Sorted.{IsStrictlySortedBy}
-use Rattle.std.specs.Map.{keys_of}
-use Rattle.std.proofs.lemmas.Bool.{cases_eq, cases_lt, cases_order}
-use Rattle.std.proofs.lemmas.List.{length-map}
-use Rattle.std.proofs.lemmas.Option.{same_Some}
-use Rattle.mr_base.specs.declared.byte.AbstractByte.{AbstractByte}
-use Rattle.mr_base.specs.declared.byte.AbstractByte.TheVariants.{Init}
-use Rattle.mr_base.specs.declared.byte.AllocId.{AllocId}
-use Rattle.mr_runs.specs.declared.mark.Mark.TheVariants as mark
-use Rattle.mr_runs.specs.Exchanged.{IsBegun, IsEnded, IsExchanged, IsPushed}
+use Rattle.mr_runs.proofs.Common.{◌≡◌, ◌≢◌, ℕ, ◌+◌, ◌-◌, ◌<◌, ◌≤◌, ◌⊎◌, min, Bool, true, false, cond, List, [], ◌∷◌, ◌++◌, length, take, Some, None, Option, refl, sym, ap, ◌∙◌, inl, inr, ⊎_elim, arith, length-append, length-take, nat_cmp, is_at, IsStrictlySortedBy, keys_of, cases_eq, cases_lt, cases_order, length-map, same_Some, AbstractByte, Init, AllocId, IsBegun, IsEnded, IsExchanged, IsPushed, with_provenance, SeenPiece, UninitPiece, InitPiece, bytes_of_piece, mark_of, piece_len, bytes_in, found, total_len, Holds, IsReplaced, IsTiled, piece_past}
 use Rattle.mr_runs.specs.Growing.{with_numbers, CanGrow}
-use Rattle.mr_runs.specs.Numbers.{with_provenance}
-use Rattle.mr_runs.specs.Pieces.{SeenPiece, UninitPiece, InitPiece, bytes_of_piece, mark_of, piece_len}
-use Rattle.mr_runs.specs.Placed.{bytes_in, found, total_len, Holds, IsReplaced, IsTiled}
-use Rattle.mr_runs.specs.Windows.{piece_past}
+use Rattle.mr_runs.specs.declared.mark.Mark.TheVariants as mark
 use Rattle.mr_runs.proofs.ExchangeLaws.{replaced}
 use Rattle.mr_runs.proofs.FindLaws.{holds_found, maximal_rest, placed_rest, tiled_as, tiled_front}
 use Rattle.mr_runs.proofs.PlacedLaws.{length-bytes_in, none_before, none_behind, same_as_placed}

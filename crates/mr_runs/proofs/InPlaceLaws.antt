@@ -1,17 +1,6 @@
 -- Numbers put in place in a piece, and a piece put in place of one that is as long.
-use Rattle.std.proofs.Common.{◌≡◌, ◌≢◌, ℕ, zero, suc, get_or, ◌+◌, ◌-◌, ◌<◌, ◌≤◌, cond, List, [], ◌∷◌, ◌++◌, length, map, Some, Option, refl, sym, ap, ◌∙◌, inr, arith, append_assoc, nat_cmp}
-use Rattle.std.proofs.lemmas.List.{length-map}
-use Rattle.std.specs.BTreeMap.{is_at}
-use Rattle.std.specs.Map.{set_value, values_of}
-use Rattle.mr_base.specs.declared.byte.AllocId.{AllocId}
-use Rattle.mr_base.specs.declared.byte.AbstractByte.{AbstractByte}
-use Rattle.mr_base.specs.declared.byte.AbstractByte.TheVariants.{Init}
-use Rattle.mr_runs.specs.declared.mark.Mark.{Mark}
-use Rattle.mr_runs.specs.Exchanged.{last_mark}
-use Rattle.mr_runs.specs.Numbers.{number_of, with_numbers_at, with_provenance, AreOf, IsInPlace, TakesNumbers}
-use Rattle.mr_runs.specs.Pieces.{SeenPiece, UninitPiece, InitPiece, bytes_of_piece, mark_of, piece_len, AreMaximal}
-use Rattle.mr_runs.specs.Placed.{bytes_in, total_len, Holds, IsPlaced, IsReplaced, IsTiled}
-use Rattle.mr_runs.specs.Ranges.{with_range_replaced}
+use Rattle.mr_runs.proofs.Common.{◌≡◌, ◌≢◌, ℕ, zero, suc, get_or, ◌+◌, ◌-◌, ◌<◌, ◌≤◌, cond, List, [], ◌∷◌, ◌++◌, length, map, Some, Option, refl, sym, ap, ◌∙◌, inr, arith, append_assoc, nat_cmp, length-map, is_at, values_of, AllocId, AbstractByte, Init, Mark, last_mark, number_of, with_numbers_at, with_provenance, AreOf, IsInPlace, TakesNumbers, SeenPiece, UninitPiece, InitPiece, bytes_of_piece, mark_of, piece_len, AreMaximal, bytes_in, total_len, Holds, IsPlaced, IsReplaced, IsTiled, with_range_replaced}
+use Rattle.std.specs.Map.{set_value}
 use Rattle.mr_runs.proofs.ExchangeLaws.{joined_tiled}
 use Rattle.mr_runs.proofs.FindLaws.{holds_bytes, holds_start, maximal_rest, tiled_as, tiled_front}
 use Rattle.mr_runs.proofs.MaximalLaws.{last_mark-push}

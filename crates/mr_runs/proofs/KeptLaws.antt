@@ -1,14 +1,7 @@
 -- What is kept, changed step by step.
-use Rattle.std.proofs.Common.{◌≡◌, ℕ, List, length, refl, sym, ap, ◌∙◌, subst}
-use Rattle.std.specs.Prelude.{OnErr, OnOk, Result, Ok, Err}
+use Rattle.mr_runs.proofs.Common.{◌≡◌, ℕ, List, length, refl, sym, ap, ◌∙◌, subst, OnOk, Result, Ok, Err, AbstractByte, Kept, Whole, Split, SeenPiece, IsReplaced, IsTiled, bytes_in, total_len, with_range_replaced, IsChanged, IsSame, IsSound, stamped}
+use Rattle.std.specs.Prelude.{OnErr}
 use Rattle.std.specs.BTreeMap.{BTreeMap}
-use Rattle.mr_base.specs.declared.byte.AbstractByte.{AbstractByte}
-use Rattle.mr_runs.specs.declared.kept.Kept.{Kept}
-use Rattle.mr_runs.specs.declared.kept.Kept.TheVariants.{Whole, Split}
-use Rattle.mr_runs.specs.Pieces.{SeenPiece}
-use Rattle.mr_runs.specs.Placed.{IsReplaced, IsTiled, bytes_in, total_len}
-use Rattle.mr_runs.specs.Ranges.{with_range_replaced}
-use Rattle.mr_runs.specs.Stamped.{IsChanged, IsSame, IsSound, stamped}
 
 pub same_here : (kept : Kept) (len : ℕ) → IsSound kept len → IsSame kept kept len
 same_here kept len s = record { sound = s; bytes_are = refl }

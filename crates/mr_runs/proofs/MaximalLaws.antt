@@ -1,9 +1,5 @@
 -- Pieces that are as few as can be: parts of them, and some put behind others.
-use Rattle.std.proofs.Common.{◌≡◌, List, [], ◌∷◌, ◌++◌, Some, None, refl, sym, ap, ◌∙◌}
-use Rattle.std.proofs.lemmas.Option.{same_Some}
-use Rattle.mr_runs.specs.declared.mark.Mark.{Mark}
-use Rattle.mr_runs.specs.Exchanged.{first_mark, last_mark}
-use Rattle.mr_runs.specs.Pieces.{SeenPiece, mark_of, AreMaximal, IsApartFrom}
+use Rattle.mr_runs.proofs.Common.{◌≡◌, List, [], ◌∷◌, ◌++◌, Some, None, refl, sym, ap, ◌∙◌, same_Some, Mark, first_mark, last_mark, SeenPiece, mark_of, AreMaximal, IsApartFrom}
 
 -- the last of some pieces and the first of others could not be one piece
 abbrev pub AreApart : List SeenPiece → List SeenPiece → Type 0

@@ -1,9 +1,7 @@
 -- What stands at a position, in lists of entries by position.
-use Rattle.std.proofs.Common.{◌≡◌, ◌≢◌, ℕ, ◌<◌, Bool, true, false, cond, List, [], ◌∷◌, ◌++◌, Some, None, Option, refl, sym, ap, ◌∙◌, arith, nat_cmp, is_eq, Ordering, Less, Equal, Greater}
-use Rattle.std.specs.BTreeMap.{is_at}
+use Rattle.mr_runs.proofs.Common.{◌≡◌, ◌≢◌, ℕ, ◌<◌, Bool, true, false, cond, List, [], ◌∷◌, ◌++◌, Some, None, Option, refl, sym, ap, ◌∙◌, arith, nat_cmp, Ordering, Less, Equal, Greater, is_at, SeenPiece, found}
+use Rattle.std.proofs.Common.{is_eq}
 use Rattle.std.proofs.lemmas.Cmp.{ranked}
-use Rattle.mr_runs.specs.Pieces.{SeenPiece}
-use Rattle.mr_runs.specs.Placed.{found}
 
 pub at_same : (q k : ℕ) → q ≡ k → is_at (nat_cmp q) k ≡ true
 at_same q k same = by_order (nat_cmp q k) refl

@@ -1,9 +1,8 @@
 -- A range replaced: its length, and one item more.
-use Rattle.std.proofs.Common.{◌≡◌, ℕ, zero, suc, ◌+◌, ◌-◌, ◌<◌, ◌≤◌, List, [], ◌∷◌, ◌++◌, length, map, replicate, take, drop, get_or, set, refl, sym, ap, ◌∙◌, arith, append_assoc, length-take, length-append, take_all}
-use Rattle.std.proofs.lemmas.List.{drop-append-le, drop-map, length-map, map-append, take-append-le, take-map}
+use Rattle.mr_runs.proofs.Common.{◌≡◌, ℕ, zero, suc, ◌+◌, ◌-◌, ◌<◌, ◌≤◌, List, [], ◌∷◌, ◌++◌, length, map, replicate, take, drop, get_or, refl, sym, ap, ◌∙◌, arith, append_assoc, length-take, length-append, take_all, drop-append-le, drop-map, length-map, map-append, take-append-le, take-map, with_range_replaced}
+use Rattle.std.proofs.Common.{set}
 use Rattle.std.proofs.Math.Seq.{drop-cons, set-append_seam}
 use Rattle.std.proofs.lemmas.Grind.{common_steps}
-use Rattle.mr_runs.specs.Ranges.{with_range_replaced}
 use Rattle.mr_runs.proofs.ListLaws.{drop_in_append, take_in_append}
 
 -- the list stays as long as it was

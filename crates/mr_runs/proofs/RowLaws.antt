@@ -1,14 +1,7 @@
 -- Rows of pieces that are put together from left to right.
-use Rattle.std.proofs.Common.{◌≡◌, ℕ, ◌+◌, ◌-◌, ◌<◌, ◌≤◌, List, [], ◌∷◌, ◌++◌, length, map, take, drop, get_or, Some, refl, sym, ap, ◌∙◌, subst, inl, inr, ⊎_elim, arith, append_assoc, append-nil, length-append, length-take}
-use Rattle.std.proofs.lemmas.List.{map-append, replicate-append-replicate, take-append-le, drop-append-le, take_all, take_more, drop_all}
-use Rattle.std.specs.Map.{values_of}
-use Rattle.mr_base.specs.declared.byte.AbstractByte.{AbstractByte}
-use Rattle.mr_base.specs.declared.byte.AbstractByte.TheVariants.{Uninit, Init}
-use Rattle.mr_runs.specs.declared.mark.Mark.{Mark}
-use Rattle.mr_runs.specs.Exchanged.{first_mark, last_mark, one_piece, together, IsBegun, IsEnded, IsPushed}
-use Rattle.mr_runs.specs.Pieces.{SeenPiece, UninitPiece, InitPiece, bytes_of_piece, mark_of, piece_len, AreMaximal}
-use Rattle.mr_runs.specs.Placed.{bytes_in, total_len, Holds, IsPlaced, IsTiled}
-use Rattle.mr_runs.specs.Windows.{first_piece, piece_past}
+use Rattle.mr_runs.proofs.Common.{◌≡◌, ℕ, ◌+◌, ◌-◌, ◌<◌, ◌≤◌, List, [], ◌∷◌, ◌++◌, length, map, take, drop, get_or, Some, refl, sym, ap, ◌∙◌, subst, inl, inr, ⊎_elim, arith, append_assoc, length-append, length-take, map-append, replicate-append-replicate, take-append-le, drop-append-le, take_more, drop_all, values_of, AbstractByte, Uninit, Init, Mark, first_mark, last_mark, one_piece, together, IsBegun, IsEnded, IsPushed, SeenPiece, UninitPiece, InitPiece, bytes_of_piece, mark_of, piece_len, AreMaximal, bytes_in, total_len, Holds, IsPlaced, IsTiled, first_piece, piece_past}
+use Rattle.std.proofs.Common.{append-nil}
+use Rattle.std.proofs.lemmas.List.{take_all}
 use Rattle.mr_runs.proofs.FindLaws.{holds_bytes, holds_start}
 use Rattle.mr_runs.proofs.MaximalLaws.{first_mark-append, last_mark-push, maximal_append, maximal_front, maximal_back, maximal_seam}
 use Rattle.mr_runs.proofs.PlacedLaws.{bytes_in-append, length-bytes_in, length-bytes_of_piece, placed_append, placed_back, placed_front, total_len-append, values_of-append}

@@ -1,23 +1,8 @@
 -- Bytes whose numbers are kept apart from their marks.
-use Rattle.std.proofs.Common.{◌≡◌, ℕ, zero, suc, ◌+◌, ◌-◌, ◌<◌, ◌≤◌, min, List, [], ◌∷◌, ◌++◌, length, map, replicate, take, drop, Option, refl, sym, ap, ◌∙◌, subst, arith, append_assoc, length-append, length-drop, length-take, drop-drop, take-take, take_all}
-use Rattle.std.specs.Prelude.{option_map, slice_get}
-use Rattle.std.specs.Map.{values_of}
-use Rattle.std.proofs.lemmas.List.{append-nil, drop-replicate, length-map, length-replicate, length-take-le, replicate-append-replicate, take-append-drop, take-append-le, take-replicate}
-use Rattle.mr_base.specs.declared.byte.AbstractByte.{AbstractByte}
-use Rattle.mr_base.specs.declared.byte.AbstractByte.TheVariants.{Uninit, Init}
-use Rattle.mr_base.specs.declared.byte.AllocId.{AllocId}
-use Rattle.mr_runs.specs.declared.kept.Kept.{Kept}
-use Rattle.mr_runs.specs.declared.kept.Kept.TheVariants.{Whole, Split}
-use Rattle.mr_runs.specs.declared.mark.Mark.{Mark}
+use Rattle.mr_runs.proofs.Common.{◌≡◌, ℕ, zero, suc, ◌+◌, ◌-◌, ◌<◌, ◌≤◌, min, List, [], ◌∷◌, ◌++◌, length, map, replicate, take, drop, Option, refl, sym, ap, ◌∙◌, subst, arith, append_assoc, length-append, length-drop, length-take, drop-drop, take-take, take_all, option_map, slice_get, values_of, append-nil, drop-replicate, length-map, length-replicate, replicate-append-replicate, take-append-drop, take-append-le, take-replicate, AbstractByte, Uninit, Init, AllocId, Kept, Whole, Split, Mark, marked_piece, numbers_of, together, number_of, with_provenance, SeenPiece, UninitPiece, InitPiece, bytes_of_piece, mark_of, piece_len, AreMaximal, IsApartFrom, Holds, IsPlaced, IsReplaced, IsTiled, bytes_in, total_len, with_range_replaced, IsSound, IsStamped, IsStampedAnew, entries_of, stamped, stamped_entry, stamped_piece, without_number, first_piece, piece_past}
+use Rattle.std.proofs.lemmas.List.{length-take-le}
+use Rattle.mr_runs.specs.Stamped.{stamp, with_number}
 use Rattle.mr_runs.specs.declared.mark.Mark.TheVariants as mark
-use Rattle.mr_runs.specs.Contents.{marked_piece}
-use Rattle.mr_runs.specs.Exchanged.{numbers_of, together}
-use Rattle.mr_runs.specs.Numbers.{number_of, with_provenance}
-use Rattle.mr_runs.specs.Pieces.{SeenPiece, UninitPiece, InitPiece, bytes_of_piece, mark_of, piece_len, AreMaximal, IsApartFrom}
-use Rattle.mr_runs.specs.Placed.{Holds, IsPlaced, IsReplaced, IsTiled, bytes_in, total_len}
-use Rattle.mr_runs.specs.Ranges.{with_range_replaced}
-use Rattle.mr_runs.specs.Stamped.{IsSound, IsStamped, IsStampedAnew, entries_of, stamp, stamped, stamped_entry, stamped_piece, with_number, without_number}
-use Rattle.mr_runs.specs.Windows.{first_piece, piece_past}
 use Rattle.mr_runs.proofs.FindLaws.{holds_bytes, holds_end, holds_start}
 use Rattle.mr_runs.proofs.ListLaws.{drop_in_append, take_in_append}
 use Rattle.mr_runs.proofs.PlacedLaws.{length-bytes_in, length-bytes_of_piece, placed_at}

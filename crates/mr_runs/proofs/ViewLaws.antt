@@ -1,24 +1,13 @@
 -- What windows on pieces show.
-use Rattle.std.proofs.Common.{◌≡◌, ℕ, zero, suc, ◌+◌, ◌-◌, ◌<◌, ◌≤◌, ◌⊎◌, cond, List, [], ◌∷◌, ◌++◌, length, map, replicate, get_or, take, drop, Some, None, Option, ◌^◌, refl, sym, ap, ◌∙◌, inl, inr, arith, length-drop, length-take, le-ltb, lt-ltb, take-take, take_all, drop-drop, ⊎_elim}
-use Rattle.std.specs.Prelude.{min, option_map, slice_get}
-use Rattle.mr_base.specs.declared.byte.AllocId.{AllocId}
-use Rattle.std.specs.Map.{values_of}
-use Rattle.std.proofs.lemmas.Bool.{cases_lt}
-use Rattle.std.proofs.lemmas.List.{drop-take, length-replicate}
-use Rattle.mr_base.specs.declared.byte.AbstractByte.{AbstractByte}
-use Rattle.mr_base.specs.declared.byte.AbstractByte.TheVariants.{Uninit, Init}
+use Rattle.mr_runs.proofs.Common.{◌≡◌, ℕ, zero, suc, ◌+◌, ◌-◌, ◌<◌, ◌≤◌, ◌⊎◌, cond, List, [], ◌∷◌, ◌++◌, length, map, replicate, get_or, take, drop, Some, None, Option, refl, sym, ap, ◌∙◌, inl, inr, arith, length-drop, length-take, take-take, take_all, drop-drop, ⊎_elim, min, option_map, slice_get, AllocId, values_of, cases_lt, length-replicate, AbstractByte, Uninit, Init, SeenPiece, UninitPiece, InitPiece, bytes_of_piece, bytes_of_pieces, mark_of, piece_len, AreMaximal, Kept, lent_pieces, IsLent, bytes_in, total_len, Holds, IsPlaced, IsTiled, IsStamped, entries_of, stamped, stamped_entry, stamped_piece, clipped_piece, first_piece, first_pieces, piece_past, pieces_past}
+use Rattle.std.proofs.Common.{◌^◌, le-ltb, lt-ltb}
+use Rattle.std.proofs.lemmas.List.{drop-take}
+use Rattle.mr_base.proofs.Lists.{slice_get-drop, slice_get-take}
 use Rattle.mr_runs.specs.declared.mark.Mark.TheVariants as mark
-use Rattle.mr_runs.specs.Pieces.{SeenPiece, UninitPiece, InitPiece, bytes_of_piece, bytes_of_pieces, mark_of, piece_len, AreMaximal}
-use Rattle.mr_runs.specs.declared.kept.Kept.{Kept}
-use Rattle.mr_runs.specs.Lent.{lent_pieces, IsLent}
-use Rattle.mr_runs.specs.Placed.{bytes_in, total_len, Holds, IsPlaced, IsTiled}
-use Rattle.mr_runs.specs.Stamped.{IsStamped, entries_of, stamped, stamped_entry, stamped_piece}
-use Rattle.mr_runs.specs.Windows.{clipped_piece, first_piece, first_pieces, piece_past, pieces_past}
 use Rattle.mr_runs.proofs.FindLaws.{holds_start, placed_rest, tiled_as}
 use Rattle.mr_runs.proofs.PlacedLaws.{total_len-append, values_of-append}
 use Rattle.mr_runs.proofs.StampLaws.{holds_behind, holds_stamped, slice_get-stamped, sound_length, sound_tiled, stamped_tiled}
 use Rattle.mr_runs.proofs.WindowLaws.{bytes_of_pieces-first, bytes_of_pieces-past, maximal_first, maximal_past, piece_len-past, piece_past-zero}
-use Rattle.mr_base.proofs.Lists.{slice_get-drop, slice_get-take}
 
 -- ---- the bytes of a window
 

@@ -1,11 +1,8 @@
 -- Windows of pieces: their bytes, and that they are as few as can be.
-use Rattle.std.proofs.Common.{◌≡◌, ℕ, zero, suc, ◌-◌, ◌<◌, ◌≤◌, min, Bool, true, false, cond, List, [], ◌∷◌, ◌++◌, length, take, drop, replicate, refl, sym, ap, ◌∙◌, arith, length-drop, length-take, take_all, ltb-true, ltb-false}
+use Rattle.mr_runs.proofs.Common.{◌≡◌, ℕ, zero, suc, ◌-◌, ◌<◌, ◌≤◌, min, Bool, true, false, cond, List, [], ◌∷◌, ◌++◌, length, take, drop, replicate, refl, sym, ap, ◌∙◌, arith, length-drop, length-take, take_all, drop-append-le, drop-map, drop-replicate, drop_all, take-map, take-replicate, length-replicate, AbstractByte, Uninit, Init, SeenPiece, UninitPiece, InitPiece, bytes_of_piece, bytes_of_pieces, mark_of, piece_len, AreMaximal, IsApartFrom, first_piece, first_pieces, piece_past, pieces_past}
+use Rattle.std.proofs.Common.{ltb-true, ltb-false}
 use Rattle.std.specs.Prelude.{nat_lt}
-use Rattle.std.proofs.lemmas.List.{drop-append-le, drop-map, drop-replicate, drop_all, take-map, take-replicate, take_min, length-replicate}
-use Rattle.mr_base.specs.declared.byte.AbstractByte.{AbstractByte}
-use Rattle.mr_base.specs.declared.byte.AbstractByte.TheVariants.{Uninit, Init}
-use Rattle.mr_runs.specs.Pieces.{SeenPiece, UninitPiece, InitPiece, bytes_of_piece, bytes_of_pieces, mark_of, piece_len, AreMaximal, IsApartFrom}
-use Rattle.mr_runs.specs.Windows.{first_piece, first_pieces, piece_past, pieces_past}
+use Rattle.std.proofs.lemmas.List.{take_min}
 use Rattle.mr_runs.proofs.ListLaws.{drop_in_append, take_in_append}
 use Rattle.mr_runs.proofs.PlacedLaws.{length-bytes_of_piece}
 

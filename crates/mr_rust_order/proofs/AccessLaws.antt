@@ -1,16 +1,9 @@
 -- Tests of accesses, and accesses of two lists that race.
-use Rattle.std.proofs.Common.{◌≡◌, ℕ, ◌+◌, ◌<◌, ◌≤◌, ◌⊎◌, List, [], ◌∷◌, ◌++◌, length, take, get_or, Bool, true, false, not, sym, ap, ◌∙◌, subst, inl, inr, arith}
-use native.Mathlib.Decide.{dec_lt}
-use Rattle.std.specs.Prelude.{◌&&◌, ◌||◌, nat_le, nat_lt}
-use Rattle.std.specs.List.{Contains, list_any}
-use Rattle.std.proofs.lemmas.Bool.{and_from, and_parts, both_ways, cases_lt, le-leb, le-ltb, leb-true, lt-leb, lt-ltb, ltb-true, or_left}
-use Rattle.std.proofs.lemmas.List.{get_or_append_left, get_or_push, length_push, take_more}
+use Rattle.mr_rust_order.proofs.Common.{◌≡◌, ℕ, ◌+◌, ◌<◌, ◌≤◌, ◌⊎◌, List, [], ◌∷◌, ◌++◌, length, take, get_or, Bool, true, false, not, sym, ap, ◌∙◌, subst, inl, inr, arith, dec_lt, ◌&&◌, ◌||◌, nat_le, Contains, list_any, and_from, and_parts, both_ways, le-leb, leb-true, lt-ltb, ltb-true, or_left, get_or_append_left, get_or_push, length_push, take_more, Access, conflicts, overlaps, races, some_conflict, some_race, counts, is_load, has_byte, is_atomic_load, is_atomic_store, is_plain_store, is_store}
+use Rattle.std.specs.Prelude.{nat_lt}
+use Rattle.std.proofs.lemmas.Bool.{cases_lt, le-ltb, lt-leb}
 use Rattle.std.proofs.lemmas.List.Elements.{Contains-append_left, Contains-push}
 use Rattle.std.proofs.lemmas.List.Folds.{Any-from_list_any, list_any_at}
-use Rattle.mr_base.specs.declared.access.Access.{Access}
-use Rattle.mr_base.specs.Accesses.{conflicts, overlaps, races, some_conflict, some_race}
-use Rattle.mr_rust_order.specs.Loads.{counts, is_load}
-use Rattle.mr_rust_order.specs.Order.{has_byte, is_atomic_load, is_atomic_store, is_plain_store, is_store}
 
 -- two lists have accesses that conflict
 pub conflict_found : (xs ys : List Access) → some_conflict xs ys ≡ true

@@ -1,21 +1,9 @@
 -- Channels to which a step sends its clock, and the clock that a step receives.
-use Rattle.std.proofs.Common.{◌≡◌, ℕ, ◌+◌, ◌<◌, ◌≤◌, max, List, [], ◌∷◌, ◌++◌, length, take, get_or, set, slice_index, Bool, true, false, cond, refl, sym, ap, ◌∙◌, subst, inl, inr, ◌⊎◌, arith}
-use native.Mathlib.Decide.{ℕ_discrete, dec_lt}
-use Rattle.std.specs.Prelude.{◌||◌, ◌&&◌, ◌==◌}
-use Rattle.std.specs.List.{list_any}
-use Rattle.std.proofs.lemmas.Bool.{and_parts, and_from, eq-eqb, ne_eqb, or_cases, or_left, or_right}
-use Rattle.std.proofs.lemmas.List.{get_or_append_left, get_or_past, get_or_push, get_or-set_other, get_or-set_same, length_push}
+use Rattle.mr_rust_order.proofs.Common.{◌≡◌, ℕ, ◌+◌, ◌<◌, ◌≤◌, max, List, [], ◌∷◌, ◌++◌, length, take, get_or, set, slice_index, Bool, true, false, cond, refl, sym, ap, ◌∙◌, subst, inl, inr, ◌⊎◌, arith, ℕ_discrete, dec_lt, ◌||◌, ◌&&◌, ◌==◌, list_any, and_parts, and_from, eq-eqb, ne_eqb, or_cases, or_left, or_right, get_or_append_left, get_or_push, get_or-set_other, get_or-set_same, length_push, Event, Quiet, CreateLock, Acquire, Release, Spawn, Join, Footprint, wakes, spawns, step_at, thread_at, AreChannels, AreSent, IsThreadClock, clock_at, to_joiners, to_lock, to_thread, told_by, IsClockBehind, IsJoin, IsRaised, IsUnder, Reaches, Edge, HappensBefore, IsReadBy, releases, in_thread, started, handed_over, joined, stored}
+use Rattle.std.proofs.lemmas.List.{get_or_past}
 use Rattle.std.proofs.lemmas.List.Folds.{list_any_more}
 use Rattle.mr_base.proofs.Comparisons.{eq_from}
-use Rattle.mr_base.specs.declared.thread.Event.{Event}
-use Rattle.mr_base.specs.declared.thread.Event.TheVariants.{Quiet, CreateLock, Acquire, Release, Spawn, Join}
-use Rattle.mr_event.specs.Footprint.{Footprint}
-use Rattle.mr_event.specs.Footprints.{wakes, spawns}
-use Rattle.mr_event.specs.Order.{step_at, thread_at}
-use Rattle.mr_rust_order.specs.Channels.{AreChannels, AreOthersKept, AreSent, IsSent, IsThreadClock, clock_at, to_joiners, to_lock, to_thread, told_by}
-use Rattle.mr_rust_order.specs.Clocks.{IsClockBehind, IsJoin, IsRaised, IsUnder, Reaches}
-use Rattle.mr_rust_order.specs.Order.{Edge, HappensBefore, IsReadBy, releases}
-use Rattle.mr_rust_order.specs.Order.Edge.{in_thread, started, handed_over, joined, stored}
+use Rattle.mr_rust_order.specs.Channels.{AreOthersKept, IsSent}
 use Rattle.mr_rust_order.proofs.ClockLaws.{join_cases, join_other, under_raised}
 use Rattle.mr_rust_order.proofs.OrderLaws.{reach_edge}
 

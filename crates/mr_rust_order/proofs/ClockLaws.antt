@@ -1,9 +1,5 @@
 -- What lies under a clock that was joined with another one, and under the clock behind a step.
-use Rattle.std.proofs.Common.{◌≡◌, ◌≢◌, ℕ, ◌+◌, ◌<◌, max, List, slice_index, sym, ap, ◌∙◌, inl, inr, ◌⊎◌, arith}
-use native.Mathlib.Decide.{ℕ_discrete, dec_lt}
-use Rattle.mr_event.specs.Footprint.{Footprint}
-use Rattle.mr_event.specs.Order.{thread_at}
-use Rattle.mr_rust_order.specs.Clocks.{IsClockBefore, IsClockBehind, IsJoin, IsRaised, IsUnder, Reaches}
+use Rattle.mr_rust_order.proofs.Common.{◌≡◌, ◌≢◌, ℕ, ◌+◌, ◌<◌, max, List, slice_index, sym, ap, ◌∙◌, inl, inr, ◌⊎◌, arith, ℕ_discrete, dec_lt, Footprint, thread_at, IsClockBefore, IsClockBehind, IsJoin, IsRaised, IsUnder, Reaches}
 use Rattle.mr_rust_order.proofs.OrderLaws.{reach_in_thread}
 
 pub join_cases : (one other new : List ℕ) (t n : ℕ) → IsJoin one other new → n < slice_index new t → (n < slice_index one t) ⊎ (n < slice_index other t)

@@ -1,11 +1,5 @@
 -- Rust's order, computed with examples: a flag that is raised behind a store, and a flag that is raised once more.
-use Rattle.std.proofs.Common.{◌≡◌, ℕ, zero, suc, List, [], ◌∷◌, true, false, refl, ap, ◌∙◌, arith}
-use Rattle.mr_base.specs.declared.access.Access.{Access}
-use Rattle.mr_base.specs.declared.thread.Event.TheVariants.{Quiet}
-use Rattle.mr_event.specs.Footprint.{Footprint}
-use Rattle.mr_rust_order.specs.Order.{HappensBefore, IsReadBy, Makes, is_plain_store}
-use Rattle.mr_rust_order.specs.Order.Edge.{in_thread, stored}
-use Rattle.mr_rust_order.specs.Order.HappensBefore.{edge, chain}
+use Rattle.mr_rust_order.proofs.Common.{◌≡◌, ℕ, zero, suc, List, [], ◌∷◌, true, false, refl, ap, ◌∙◌, arith, Access, Quiet, Footprint, HappensBefore, IsReadBy, Makes, is_plain_store, in_thread, stored, edge, chain}
 
 abbrev flag_store : Access
 flag_store = record { store = true; atomic = true; addr = 100; len = 4 }

@@ -1,6 +1,7 @@
 pub mod AccessLaws
 pub mod ChannelLaws
 pub mod ClockLaws
+mod Common
 pub mod Examples
 pub mod LoadLaws
 pub mod MarkLaws

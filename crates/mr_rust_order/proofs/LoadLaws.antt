@@ -1,18 +1,7 @@
 -- The latest stores to a byte, by the rows and in the run.
-use Rattle.std.proofs.Common.{◌≡◌, ◌≢◌, ℕ, ◌+◌, ◌<◌, ◌≤◌, List, length, take, get_or, Bool, true, false, not, IsTrue, sym, ap, ◌∙◌, subst, inl, inr, ◌⊎◌, arith}
-use native.Mathlib.Decide.{dec_lt}
-use Rattle.std.specs.Prelude.{◌&&◌, ◌==◌}
-use Rattle.std.specs.List.{Contains}
-use Rattle.std.proofs.lemmas.Bool.{and_from, and_parts, eq-eqb}
+use Rattle.mr_rust_order.proofs.Common.{◌≡◌, ◌≢◌, ℕ, ◌+◌, ◌<◌, ◌≤◌, List, length, take, get_or, Bool, true, false, not, IsTrue, sym, ap, ◌∙◌, subst, inl, inr, ◌⊎◌, arith, dec_lt, ◌&&◌, ◌==◌, Contains, and_from, and_parts, eq-eqb, Access, Footprint, step_at, Row, AreJoined, AreMet, IsLatestStore, IsReadOf, counts, is_load, takes, IsListed, IsReadBy, Makes, has_byte, is_atomic_load, is_atomic_store, is_plain_store, is_store, AreRows, IsRow, IsTop, Passes, row_at}
 use Rattle.mr_base.proofs.Comparisons.{eq_from}
-use Rattle.mr_base.specs.declared.access.Access.{Access}
-use Rattle.mr_event.specs.Footprint.{Footprint}
-use Rattle.mr_event.specs.Order.{step_at}
-use Rattle.mr_rust_order.specs.declared.rows.Row.{Row}
-use Rattle.mr_rust_order.specs.Loads.{AreFoundAt, AreJoined, AreMet, IsLatestStore, IsLoadedBy, IsReadOf, counts, is_load, takes}
-use Rattle.mr_rust_order.specs.Marks.{IsListed}
-use Rattle.mr_rust_order.specs.Order.{IsReadBy, Makes, has_byte, is_atomic_load, is_atomic_store, is_plain_store, is_store}
-use Rattle.mr_rust_order.specs.Rows.{AreRows, IsRow, IsTop, Passes, row_at}
+use Rattle.mr_rust_order.specs.Loads.{AreFoundAt, IsLoadedBy}
 use Rattle.mr_rust_order.proofs.AccessLaws.{atomic_is_store, byte_from, byte_to, counted_is_store, loaded_byte, not_loaded, plain_is_store, some_last, some_more, some_wider, store_conflicts, store_is_counted}
 use Rattle.mr_rust_order.proofs.OrderLaws.{reach_up_to}
 use Rattle.mr_rust_order.proofs.TopLaws.{joined_more, joined_none, joined_same, top_least}

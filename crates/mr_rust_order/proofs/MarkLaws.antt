@@ -1,11 +1,9 @@
 -- Marks in their order, and the rows that are found by them.
-use Rattle.std.proofs.Common.{◌≡◌, ℕ, zero, suc, ◌⊎◌, inl, inr, ◌+◌, ◌-◌, ◌<◌, ◌≤◌, ◌^◌, List, [], ◌∷◌, ◌++◌, Bool, true, false, cond, map, length, length-append, get_or, min, refl, sym, ◌∙◌, ap, subst, arith}
-use Rattle.std.proofs.lemmas.Bool.{and_parts, both_ways}
-use Rattle.std.proofs.lemmas.List.{get_or-append-add, get_or-map, get_or_append_left, get_or_push, get_or_read, length-map}
+use Rattle.mr_rust_order.proofs.Common.{◌≡◌, ℕ, zero, suc, ◌⊎◌, inl, inr, ◌+◌, ◌-◌, ◌<◌, ◌≤◌, ◌^◌, List, [], ◌∷◌, ◌++◌, Bool, true, false, cond, length, get_or, refl, sym, ◌∙◌, ap, subst, arith, and_parts, both_ways, get_or_append_left, get_or_push, get_or_read, ℕ_discrete, ◌&&◌, ◌||◌, Access, conflicts, overlaps, Mark, Shelf, Row, AreKept, AreMarked, IsListed, IsMarked, IsOnShelf, has_mark, mark_of, no_shelf, shelf_at, row_at}
+use Rattle.std.proofs.Common.{map, length-append, min}
+use Rattle.std.proofs.lemmas.List.{get_or-append-add, get_or-map, length-map}
 use Rattle.std.proofs.lemmas.Map.Lookups.{CmpEqualImpliesEq, exact_unsigned}
 use Rattle.std.proofs.lemmas.Map.Views.{Contains-from_any, any-filter_same, range_contains-from_IsInRange, tells_apart}
-use native.Mathlib.Decide.{ℕ_discrete}
-use Rattle.std.specs.Prelude.{◌&&◌, ◌||◌}
 use Rattle.std.specs.BTreeMap.{is_at}
 use Rattle.std.specs.BTreeMap.Range.{range_contains}
 use Rattle.std.specs.Cmp.{IsTotalOrder, on_total, then_total, nat_cmp_total, ranked}
@@ -14,14 +12,8 @@ use Rattle.std.specs.Ordering.{eq_by_cmp, is_gt, nat_cmp, ordering_then}
 use Rattle.std.specs.declared.cmp.Ordering.{Ordering}
 use Rattle.std.specs.declared.cmp.Ordering.TheVariants.{Less, Equal, Greater}
 use Rattle.std.specs.declared.ops.Bound.TheVariants.{Included}
-use Rattle.mr_base.specs.declared.access.Access.{Access}
-use Rattle.mr_base.specs.Accesses.{conflicts, overlaps}
 use Rattle.mr_base.proofs.Comparisons.{lt_from}
-use Rattle.mr_rust_order.specs.declared.index.Mark.{Mark}
-use Rattle.mr_rust_order.specs.declared.index.Shelf.{Shelf}
-use Rattle.mr_rust_order.specs.declared.rows.Row.{Row}
-use Rattle.mr_rust_order.specs.Marks.{AreKept, AreMarked, IsListed, IsMarked, IsOnShelf, has_mark, mark_cmp, mark_of, no_shelf, shelf_at}
-use Rattle.mr_rust_order.specs.Rows.{row_at}
+use Rattle.mr_rust_order.specs.Marks.{mark_cmp}
 
 -- ---- the order of marks
 

@@ -1,15 +1,5 @@
 -- Memos that are made, and that stay while rows come.
-use Rattle.std.proofs.Common.{◌≡◌, ◌≢◌, ℕ, ◌+◌, ◌<◌, ◌≤◌, List, [], ◌∷◌, ◌++◌, length, get_or, set, true, IsTrue, refl, sym, ap, ◌∙◌, subst, arith}
-use native.Mathlib.Decide.{ℕ_discrete, dec_lt}
-use Rattle.std.proofs.lemmas.List.{get_or_append_left, get_or_push, get_or-set_other, get_or-set_same, length-set, length_push}
-use Rattle.mr_base.specs.Accesses.{conflicts}
-use Rattle.mr_base.specs.declared.access.Access.{Access}
-use Rattle.mr_rust_order.specs.declared.memos.Memo.{Memo}
-use Rattle.mr_rust_order.specs.declared.rows.Row.{Row}
-use Rattle.mr_rust_order.specs.Loads.{AreMet}
-use Rattle.mr_rust_order.specs.Marks.{IsListed}
-use Rattle.mr_rust_order.specs.Memos.{AreMemos, IsMemo}
-use Rattle.mr_rust_order.specs.Rows.{AreNoted, row_at}
+use Rattle.mr_rust_order.proofs.Common.{◌≡◌, ◌≢◌, ℕ, ◌+◌, ◌<◌, ◌≤◌, List, [], ◌∷◌, ◌++◌, length, get_or, set, true, IsTrue, refl, sym, ap, ◌∙◌, subst, arith, ℕ_discrete, dec_lt, get_or_append_left, get_or_push, get_or-set_other, get_or-set_same, length-set, length_push, conflicts, Access, Memo, Row, AreMet, IsListed, AreMemos, IsMemo, AreNoted, row_at}
 
 -- a memo that counts every row serves its access
 pub memo_serves : (rows : List Row) (m : Memo) (access : Access) → IsMemo rows m → length rows ≤ m.count → m.access ≡ access → AreMet rows access m.found.items

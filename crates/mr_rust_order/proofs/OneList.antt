@@ -1,10 +1,7 @@
 -- No two lists are the races of a run.
-use Rattle.std.proofs.Common.{◌≡◌, ℕ, suc, zero, ◌<◌, ◌≤◌, ◌+◌, List, [], ◌∷◌, length, get_or, refl, sym, ◌∙◌, ap, subst, inl, inr, arith}
-use Rattle.std.specs.Prelude.{All, Any, AllPairs}
+use Rattle.mr_rust_order.proofs.Common.{◌≡◌, ℕ, suc, zero, ◌<◌, ◌≤◌, ◌+◌, List, [], ◌∷◌, length, get_or, refl, sym, ◌∙◌, ap, subst, inl, inr, arith, All, Footprint, Pair, AreRaces, AreRacesBelow, IsGreatestRace, IsRace}
+use Rattle.std.specs.Prelude.{Any, AllPairs}
 use Rattle.std.proofs.lemmas.Bool.{cases_order}
-use Rattle.mr_event.specs.Footprint.{Footprint}
-use Rattle.mr_event.specs.declared.footprint.Pair.{Pair}
-use Rattle.mr_rust_order.specs.Order.{AreRaces, AreRacesBelow, IsGreatestRace, IsRace}
 
 -- the pairs of the steps from m on and below n
 record Listed (run : List Footprint) (m n : ℕ) (pairs : List Pair) : Type 0 where

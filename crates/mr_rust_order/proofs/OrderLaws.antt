@@ -1,12 +1,6 @@
 -- What happens-before is: it goes forward, has a last edge, and is closed along a thread.
-use Rattle.std.proofs.Common.{◌≡◌, ℕ, ◌<◌, ◌≤◌, List, refl, sym, subst, inl, inr, arith}
-use native.Mathlib.Decide.{ℕ_discrete}
-use Rattle.mr_event.specs.Footprint.{Footprint}
-use Rattle.mr_event.specs.Order.{thread_at}
-use Rattle.mr_rust_order.specs.Clocks.{Reaches}
-use Rattle.mr_rust_order.specs.Order.{Edge, HappensBefore, IsInSequence, IsReadBy}
-use Rattle.mr_rust_order.specs.Order.Edge.{in_thread, started, handed_over, joined, stored}
-use Rattle.mr_rust_order.specs.Order.HappensBefore.{edge, chain}
+use Rattle.mr_rust_order.proofs.Common.{◌≡◌, ℕ, ◌<◌, ◌≤◌, List, refl, sym, subst, inl, inr, arith, ℕ_discrete, Footprint, thread_at, Reaches, Edge, HappensBefore, IsReadBy, in_thread, started, handed_over, joined, stored, edge, chain}
+use Rattle.mr_rust_order.specs.Order.{IsInSequence}
 use Rattle.mr_rust_order.specs.Order.IsInSequence.{first, update}
 
 pub Edge-before : {run : List Footprint} {i j : ℕ} → Edge run i j → i < j

@@ -1,20 +1,8 @@
 -- The partners by the rows are the races of the run.
-use Rattle.std.proofs.Common.{◌≡◌, ◌≢◌, ℕ, ◌+◌, ◌<◌, ◌≤◌, max, List, length, take, get_or, slice_index, Option, Some, None, true, not, sym, ap, ◌∙◌, subst, arith}
-use native.Mathlib.Decide.{dec_lt}
-use Rattle.std.specs.Prelude.{MatchOption, ◌&&◌, ◌==◌, nat_le}
-use Rattle.std.proofs.lemmas.Bool.{and_from, and_parts, eqb-false, leb-true, le-leb, ne_eqb, not-true, not_from_false}
-use Rattle.mr_base.specs.declared.access.Access.{Access}
-use Rattle.mr_base.specs.Accesses.{conflicts, races}
-use Rattle.mr_event.specs.Footprint.{Footprint}
-use Rattle.mr_event.specs.Order.{step_at, thread_at}
-use Rattle.mr_rust_order.specs.declared.rows.Row.{Row}
-use Rattle.mr_rust_order.specs.Clocks.{IsClockBefore}
-use Rattle.mr_rust_order.specs.Order.{HappensBefore, HasNoRace, IsGreatestRace, IsRace}
-use Rattle.mr_rust_order.specs.Partners.{HasNoPartner, IsGreatestPartner, IsPartner, IsPartnerBy, is_partner}
-use Rattle.mr_rust_order.specs.Rows.{AreRows, IsTop, Passes, row_at}
+use Rattle.mr_rust_order.proofs.Common.{◌≡◌, ◌≢◌, ℕ, ◌+◌, ◌<◌, ◌≤◌, max, List, length, take, get_or, slice_index, Option, Some, None, true, not, sym, ap, ◌∙◌, subst, arith, dec_lt, MatchOption, ◌&&◌, ◌==◌, nat_le, and_from, and_parts, leb-true, le-leb, ne_eqb, not-true, Access, conflicts, races, Footprint, step_at, thread_at, Row, IsClockBefore, HappensBefore, HasNoRace, IsGreatestRace, IsRace, IsPartnerBy, is_partner, AreRows, IsTop, Passes, row_at, in_thread, edge}
+use Rattle.std.proofs.lemmas.Bool.{eqb-false, not_from_false}
+use Rattle.mr_rust_order.specs.Partners.{HasNoPartner, IsGreatestPartner, IsPartner}
 use Rattle.mr_rust_order.proofs.AccessLaws.{race_conflict, race_found, race_there, some_last, some_more, some_wider}
-use Rattle.mr_rust_order.specs.Order.Edge.{in_thread}
-use Rattle.mr_rust_order.specs.Order.HappensBefore.{edge}
 use Rattle.mr_rust_order.proofs.OrderLaws.{before_from, reach_up_to}
 use Rattle.mr_rust_order.proofs.TopLaws.{top_max, top_none}
 

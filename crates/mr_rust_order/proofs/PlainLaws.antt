@@ -1,29 +1,16 @@
 -- Of a run of plain accesses both orders are one, and so are the races.
-use Rattle.std.proofs.Common.{◌≡◌, ◌≢◌, ℕ, ◌<◌, ◌⊎◌, ◌↔◌, inl, inr, List, Bool, true, false, IsTrue, refl, ap, ◌∙◌, length}
-use Rattle.std.proofs.Common.{arith}
-use native.Mathlib.Decide.{ℕ_discrete}
-use Rattle.std.specs.Prelude.{◌&&◌, ◌||◌, ◌==◌, All, not}
-use Rattle.std.specs.List.{Contains}
-use Rattle.std.proofs.lemmas.Bool.{and_from, both_ways, false≢true, or_right}
+use Rattle.mr_rust_order.proofs.Common.{◌≡◌, ◌≢◌, ℕ, ◌<◌, ◌⊎◌, ◌↔◌, inl, inr, List, Bool, true, false, IsTrue, refl, ap, ◌∙◌, length, arith, ℕ_discrete, ◌&&◌, ◌||◌, ◌==◌, All, not, Contains, and_from, both_ways, false≢true, or_right, conflicts, races, some_conflict, some_race, Access, Event, Quiet, CreateLock, Acquire, Release, Spawn, Join, Footprint, spawns, step_at, thread_at, AreRaces, Edge, HappensBefore, IsRace, releases, in_thread, started, handed_over, joined, stored, edge, chain}
 use Rattle.std.proofs.lemmas.Bool.Decides.{nat_tests}
 use Rattle.std.proofs.lemmas.List.Elements.{All-contains}
-use Rattle.mr_base.specs.Accesses.{conflicts, races, some_conflict, some_race}
-use Rattle.mr_base.specs.declared.access.Access.{Access}
-use Rattle.mr_base.specs.declared.thread.Event.{Event}
-use Rattle.mr_base.specs.declared.thread.Event.TheVariants.{Quiet, CreateLock, Acquire, Release, Spawn, Join}
-use Rattle.mr_event.specs.Footprint.{Footprint}
-use Rattle.mr_event.specs.Footprints.{both_create, both_spawn, depends, joins_of, same_lock, share_id, spawns}
-use Rattle.mr_event.specs.Order.{step_at, thread_at, RacePair, Races}
-use Rattle.mr_event.specs.Order.{Edge as MachineEdge, HappensBefore as MachineBefore}
-use Rattle.mr_event.specs.Order.Edge.{in_thread as machine_thread, woken, dependent}
-use Rattle.mr_event.specs.Order.HappensBefore.{edge as machine_edge, chain as machine_chain}
+use Rattle.mr_event.specs.Footprints.{both_create, both_spawn, depends, joins_of, same_lock, share_id}
+use Rattle.mr_event.specs.Order.{RacePair, Races}
 use Rattle.mr_event.specs.Predicted.{predicted, syncs}
 use Rattle.mr_event.proofs.Ordered.{woken_before}
 use Rattle.mr_event.proofs.Tests.{predicted_is, syncs_is}
-use Rattle.mr_rust_order.specs.Order.{AreRaces, Edge, HappensBefore, IsRace, releases}
-use Rattle.mr_rust_order.specs.Order.Edge.{in_thread, started, handed_over, joined, stored}
-use Rattle.mr_rust_order.specs.Order.HappensBefore.{edge, chain}
 use Rattle.mr_rust_order.specs.Plain.{IsPlain, depends_by_deeds}
+use Rattle.mr_event.specs.Order.{Edge as MachineEdge, HappensBefore as MachineBefore}
+use Rattle.mr_event.specs.Order.Edge.{in_thread as machine_thread, woken, dependent}
+use Rattle.mr_event.specs.Order.HappensBefore.{edge as machine_edge, chain as machine_chain}
 use Rattle.mr_rust_order.proofs.AccessLaws.{conflict_found, race_there}
 
 -- ---- tests

@@ -1,18 +1,7 @@
 -- Rows that are put in, one access after another, and the rows of one more step.
-use Rattle.std.proofs.Common.{◌≡◌, ◌≢◌, ℕ, zero, suc, ◌+◌, ◌<◌, ◌≤◌, List, [], ◌∷◌, ◌++◌, length, get_or, set, slice_index, refl, sym, ap, ◌∙◌, subst, inl, inr, ◌⊎◌, arith}
-use native.Mathlib.Decide.{ℕ_discrete, dec_lt}
-use Rattle.std.specs.List.{Contains}
-use Rattle.std.proofs.lemmas.List.{get_or_append_left, get_or_push, get_or_read, get_or-set_other, get_or-set_same, length-set, length_push}
+use Rattle.mr_rust_order.proofs.Common.{◌≡◌, ◌≢◌, ℕ, zero, suc, ◌+◌, ◌<◌, ◌≤◌, List, [], ◌∷◌, ◌++◌, length, get_or, set, slice_index, refl, sym, ap, ◌∙◌, subst, inl, inr, ◌⊎◌, arith, ℕ_discrete, dec_lt, Contains, get_or_append_left, get_or_push, get_or_read, get_or-set_other, get_or-set_same, length-set, length_push, Access, Footprint, step_at, thread_at, Mark, Shelf, Row, IsClockBehind, Reaches, AreMarked, IsMarked, IsPlaceFor, AreNoted, AreRows, IsPut, IsRow, row_at}
 use Rattle.std.proofs.lemmas.List.Elements.{Contains-append_left, Contains-append_right}
-use Rattle.mr_base.specs.declared.access.Access.{Access}
-use Rattle.mr_event.specs.Footprint.{Footprint}
-use Rattle.mr_event.specs.Order.{step_at, thread_at}
-use Rattle.mr_rust_order.specs.declared.index.Mark.{Mark}
-use Rattle.mr_rust_order.specs.declared.index.Shelf.{Shelf}
-use Rattle.mr_rust_order.specs.declared.rows.Row.{Row}
-use Rattle.mr_rust_order.specs.Clocks.{IsClockBehind, Reaches}
-use Rattle.mr_rust_order.specs.Marks.{AreMarked, IsMarked, IsPlaceFor}
-use Rattle.mr_rust_order.specs.Rows.{AreNoted, AreRows, IsKnown, IsKnownRow, IsOldOrPut, IsPut, IsRow, IsRowOf, no_row, row_at}
+use Rattle.mr_rust_order.specs.Rows.{IsKnown, IsKnownRow, IsOldOrPut, IsRowOf, no_row}
 use Rattle.mr_rust_order.proofs.AccessLaws.{contains_cases}
 use Rattle.mr_rust_order.proofs.OrderLaws.{reach_on}
 

@@ -1,20 +1,9 @@
 -- The clock before a step, by what it receives and loads; and the lists of races, one more step at a time.
-use Rattle.std.proofs.Common.{◌≡◌, ℕ, ◌+◌, ◌^◌, ◌<◌, List, [], ◌∷◌, ◌++◌, length, slice_index, sym, ap, subst, inl, inr, ◌⊎◌, arith}
-use native.Mathlib.Decide.{dec_lt}
-use Rattle.std.proofs.lemmas.Bool.{and_parts}
+use Rattle.mr_rust_order.proofs.Common.{◌≡◌, ℕ, ◌+◌, ◌^◌, ◌<◌, List, [], ◌∷◌, ◌++◌, length, slice_index, sym, ap, subst, inl, inr, ◌⊎◌, arith, dec_lt, and_parts, Footprint, step_at, thread_at, Pair, Row, AreChannels, IsThreadClock, to_joiners, to_lock, told_by, IsClockBefore, IsClockBehind, IsJoin, IsRaised, IsUnder, Reaches, AreJoined, IsLatestStore, IsReadOf, AreRacesBelow, Edge, HappensBefore, HasNoRace, IsGreatestRace, IsRace, Makes, has_byte, is_atomic_load, stored, AreRows, row_at}
 use Rattle.std.proofs.lemmas.List.Elements.{All-push, All-weaker}
 use Rattle.std.proofs.lemmas.List.Quantifiers.{all_pairs_push, Any-push}
 use Rattle.mr_base.proofs.Lists.{Any-append_left}
-use Rattle.mr_event.specs.Footprint.{Footprint}
-use Rattle.mr_event.specs.Order.{step_at, thread_at}
-use Rattle.mr_event.specs.declared.footprint.Pair.{Pair}
-use Rattle.mr_rust_order.specs.declared.rows.Row.{Row}
-use Rattle.mr_rust_order.specs.Channels.{AreChannels, IsThreadClock, to_joiners, to_lock, told_by}
-use Rattle.mr_rust_order.specs.Clocks.{IsClockBefore, IsClockBehind, IsJoin, IsRaised, IsUnder, Reaches}
-use Rattle.mr_rust_order.specs.Loads.{AreJoined, IsLatestStore, IsReadOf}
-use Rattle.mr_rust_order.specs.Order.{AreRacesBelow, Edge, HappensBefore, HasNoRace, IsGreatestRace, IsRace, Makes, has_byte, is_atomic_load}
-use Rattle.mr_rust_order.specs.Order.Edge.{stored}
-use Rattle.mr_rust_order.specs.Rows.{AreRows, AreShort, is_release, row_at}
+use Rattle.mr_rust_order.specs.Rows.{AreShort, is_release}
 use Rattle.mr_rust_order.proofs.ChannelLaws.{received, thread_before, told_before}
 use Rattle.mr_rust_order.proofs.ClockLaws.{join_cases, join_one, join_other, raised_on, under_raised}
 use Rattle.mr_rust_order.proofs.LoadLaws.{loaded_source, source_loaded}

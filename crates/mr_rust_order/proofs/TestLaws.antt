@@ -1,23 +1,12 @@
 -- The tests decide Rust's order and its races, and the list is that of the races.
-use Rattle.std.proofs.Common.{◌≡◌, ℕ, suc, zero, ◌<◌, ◌≤◌, ◌+◌, ◌-◌, List, [], ◌∷◌, ◌++◌, length, Bool, true, false, cond, ◌↔◌, refl, sym, ◌∙◌, ap, subst, inl, inr, arith, Option, Some, None, add-one, append-nil}
-use native.Mathlib.Decide.{ℕ_discrete}
-use Rattle.std.specs.Prelude.{not, ◌&&◌, ◌||◌, ◌==◌, MatchOption}
-use Rattle.std.specs.List.{Contains, list_any, range_with_len}
-use Rattle.std.proofs.lemmas.Bool.{both_ways, eq-eqb, ne_eqb, and_from, and_parts, eqb-true, cases_Bool, or_cases, not-true, false≢true, ltb-true, lt-ltb, or_left, or_right}
+use Rattle.mr_rust_order.proofs.Common.{◌≡◌, ℕ, suc, zero, ◌<◌, ◌≤◌, ◌+◌, ◌-◌, List, [], ◌∷◌, ◌++◌, length, Bool, true, false, cond, ◌↔◌, refl, sym, ◌∙◌, ap, subst, inl, inr, arith, Option, Some, None, ℕ_discrete, not, ◌&&◌, ◌||◌, ◌==◌, MatchOption, Contains, list_any, both_ways, eq-eqb, ne_eqb, and_from, and_parts, or_cases, not-true, false≢true, ltb-true, lt-ltb, or_left, or_right, some_race, Access, Event, Quiet, CreateLock, Acquire, Release, Spawn, Join, Footprint, Pair, wakes, step_at, thread_at, AreRaces, AreRacesBelow, Edge, HappensBefore, HasNoRace, IsGreatestRace, IsRace, IsReadBy, Makes, has_byte, is_atomic_load, is_atomic_store, is_plain_store, is_store, releases, in_thread, started, handed_over, joined, stored, edge, chain}
+use Rattle.std.proofs.Common.{add-one, append-nil}
+use Rattle.std.specs.List.{range_with_len}
+use Rattle.std.proofs.lemmas.Bool.{eqb-true, cases_Bool}
 use Rattle.std.proofs.lemmas.List.Folds.{Any-from_list_any, list_any_at}
-use Rattle.mr_base.specs.Accesses.{some_race}
-use Rattle.mr_base.specs.declared.access.Access.{Access}
-use Rattle.mr_base.specs.declared.thread.Event.{Event}
-use Rattle.mr_base.specs.declared.thread.Event.TheVariants.{Quiet, CreateLock, Acquire, Release, Spawn, Join}
-use Rattle.mr_event.specs.Footprint.{Footprint}
-use Rattle.mr_event.specs.declared.footprint.Pair.{Pair}
-use Rattle.mr_event.specs.Footprints.{wakes}
-use Rattle.mr_event.specs.Order.{step_at, thread_at, places}
+use Rattle.mr_event.specs.Order.{places}
 use Rattle.mr_event.specs.Predicted.{greatest_below, pair_with}
 use Rattle.mr_event.proofs.Tests.{not_false, any_range, any_range_at}
-use Rattle.mr_rust_order.specs.Order.{AreRaces, AreRacesBelow, Edge, HappensBefore, HasNoRace, IsGreatestRace, IsRace, IsReadBy, Makes, has_byte, is_atomic_load, is_atomic_store, is_plain_store, is_store, releases}
-use Rattle.mr_rust_order.specs.Order.Edge.{in_thread, started, handed_over, joined, stored}
-use Rattle.mr_rust_order.specs.Order.HappensBefore.{edge, chain}
 use Rattle.mr_rust_order.specs.Tests.{chained, hands_over, happens_before, has_edge, has_race, joins, makes, races_below, reads, reads_byte, reads_in, rust_races, stored_between}
 use Rattle.mr_rust_order.proofs.AccessLaws.{byte_from}
 use Rattle.mr_rust_order.proofs.OneList.{one_list}

@@ -1,12 +1,6 @@
 -- The greatest step of some rows, and a clock that is raised to those of some rows: of none, of one more, of all.
-use Rattle.std.proofs.Common.{◌≡◌, ℕ, zero, suc, ◌+◌, ◌<◌, ◌≤◌, max, List, length, slice_index, Bool, true, false, refl, sym, ap, ◌∙◌, subst, inl, inr, ◌⊎◌, arith}
-use native.Mathlib.Decide.{dec_lt, ℕ_discrete}
-use Rattle.std.proofs.lemmas.Bool.{both_ways}
-use Rattle.mr_rust_order.specs.declared.rows.Row.{Row}
-use Rattle.mr_rust_order.specs.Clocks.{IsJoin, IsRaised}
-use Rattle.mr_rust_order.specs.Loads.{AreJoined}
-use Rattle.mr_rust_order.specs.Marks.{IsListed}
-use Rattle.mr_rust_order.specs.Rows.{IsTop, IsTopWith, Passes, row_at}
+use Rattle.mr_rust_order.proofs.Common.{◌≡◌, ℕ, zero, suc, ◌+◌, ◌<◌, ◌≤◌, max, List, length, slice_index, Bool, true, false, refl, sym, ap, ◌∙◌, subst, inl, inr, ◌⊎◌, arith, dec_lt, ℕ_discrete, both_ways, Row, IsJoin, IsRaised, AreJoined, IsListed, IsTop, Passes, row_at}
+use Rattle.mr_rust_order.specs.Rows.{IsTopWith}
 use Rattle.mr_rust_order.proofs.ClockLaws.{join_cases, join_one, join_other, raised_here, raised_on}
 
 -- ---- the first places of a list

@@ -1,15 +1,6 @@
 -- Reading the lines from line 3 on: what is read is spelled so, and what stops it is the first line that is wrong.
-use Rattle.std.proofs.Common.{◌≡◌, ◌≢◌, ℕ, ◌+◌, ◌^◌, ◌<◌, ◌≤◌, false, eqb, ltb, ◌⊎◌, List, [], ◌∷◌, ◌++◌, length, map, Option, Some, None, Result, Ok, Err, refl, sym, ap, subst, ◌∙◌, append_assoc, arith, inl, inr}
-use Rattle.std.specs.Prelude.{replicate}
-use Rattle.std.proofs.lemmas.Bool.{cases_Bool, ltb-true, ltb-false, lt-ltb, le-ltb, eqb-true, eqb-false, ne_eqb}
-use Rattle.std.proofs.lemmas.List.{append-nil, nil_from_length}
-use Rattle.mr_sched.specs.declared.fault.TheConstants.{BAD_LINE, TOO_LONG}
-use Rattle.mr_sched.specs.declared.schedule.Entry.{Entry}
-use Rattle.mr_sched.specs.declared.version.Group.{Group}
-use Rattle.mr_sched.specs.declared.version.Version.{Version}
-use Rattle.mr_sched.specs.Versions.{AreLines, GroupFits, entries_in, entry_count, group_line, joins, last_entry}
+use Rattle.mr_sched.proofs.Common.{◌≡◌, ◌≢◌, ℕ, ◌+◌, ◌^◌, ◌<◌, ◌≤◌, false, eqb, ltb, ◌⊎◌, List, [], ◌∷◌, ◌++◌, length, map, Option, Some, None, Result, Ok, Err, refl, sym, ap, subst, ◌∙◌, append_assoc, arith, inl, inr, replicate, cases_Bool, ltb-true, ltb-false, lt-ltb, le-ltb, eqb-true, eqb-false, ne_eqb, append-nil, nil_from_length, BAD_LINE, TOO_LONG, Entry, Group, Version, AreLines, GroupFits, entries_in, entry_count, group_line, joins, last_entry, Fault, entries_from, group_of, line_then, on_entries}
 use Rattle.mr_sched.specs.Faults.{EntriesFail, IsNext}
-use Rattle.mr_sched.specs.Reading.{Fault, entries_from, group_of, line_then, on_entries}
 use Rattle.mr_sched.proofs.FirstLines.{entries_from-line, rest_or_line}
 use Rattle.mr_sched.proofs.GroupLaws.{group_again, group_spelled, last_lines, last_with, length_lines, length_with}
 

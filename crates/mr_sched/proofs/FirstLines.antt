@@ -1,8 +1,5 @@
 -- A line is read before those behind it.
-use Rattle.std.proofs.Common.{◌≡◌, ℕ, ◌+◌, List, [], ◌∷◌, ◌++◌, refl}
-use Rattle.mr_sched.specs.declared.schedule.Entry.{Entry}
-use Rattle.mr_sched.specs.declared.version.Version.{Version}
-use Rattle.mr_sched.specs.Reading.{body_of, entries_from, group_of, header_then, line_then, lines_schedule, on_entries, parts_at, start_of, start_then, version_of}
+use Rattle.mr_sched.proofs.Common.{◌≡◌, ℕ, ◌+◌, List, [], ◌∷◌, ◌++◌, refl, Entry, Version, body_of, entries_from, group_of, header_then, line_then, lines_schedule, on_entries, parts_at, start_of, start_then, version_of}
 
 -- there is a line
 abbrev pub HasFirst : List (List ℕ) → Type 0

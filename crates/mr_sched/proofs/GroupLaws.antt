@@ -1,19 +1,8 @@
 -- Lines of entries: what spells them, and which they are.
-use Rattle.std.proofs.Common.{◌≡◌, ℕ, suc, zero, ◌+◌, ◌^◌, ◌<◌, ◌≤◌, Bool, true, false, if◌then◌else◌, eqb, ltb, List, [], ◌∷◌, ◌++◌, length, map, Option, Some, None, refl, sym, ap, subst, ◌∙◌, arith, inl, inr}
-use Rattle.std.specs.Prelude.{replicate, decimal, slice_index_or, option_map}
-use Rattle.std.specs.List.{AllByRecursion}
-use Rattle.std.proofs.lemmas.Bool.{ltb-true, lt-ltb, eqb-true, ne_eqb, eq-eqb, and_parts}
-use Rattle.std.proofs.lemmas.Fmt.{decimal_digit}
-use Rattle.std.proofs.lemmas.Option.{cond_some}
-use Rattle.std.proofs.lemmas.List.{nil_from_length, length-append, length-replicate}
-use Rattle.mr_sched.specs.declared.schedule.Entry.{Entry}
-use Rattle.mr_sched.specs.declared.version.Group.{Group}
-use Rattle.mr_sched.specs.declared.version.Version.{Version}
-use Rattle.mr_sched.specs.declared.version.Version.TheVariants.{One, Two}
-use Rattle.mr_sched.specs.Spelling.{entry_line, EntryFits}
-use Rattle.mr_sched.specs.Faults.{IsUnbroken}
-use Rattle.mr_sched.specs.Versions.{AreLines, GroupFits, are_together, entries_in, entry_count, group_line, groups_behind, groups_of, joins, last_entry, last_line}
-use Rattle.mr_sched.specs.Reading.{number_of, parts_at, entry_of, count_of, repeated_of, single, starred_of, group_of}
+use Rattle.mr_sched.proofs.Common.{◌≡◌, ℕ, suc, zero, ◌+◌, ◌^◌, ◌<◌, ◌≤◌, Bool, true, false, if◌then◌else◌, eqb, ltb, List, [], ◌∷◌, ◌++◌, length, map, Option, Some, None, refl, sym, ap, subst, ◌∙◌, arith, inl, inr, replicate, decimal, slice_index_or, option_map, AllByRecursion, ltb-true, lt-ltb, eqb-true, ne_eqb, eq-eqb, and_parts, decimal_digit, cond_some, nil_from_length, Entry, Group, Version, One, Two, entry_line, EntryFits, IsUnbroken, AreLines, GroupFits, are_together, entries_in, entry_count, group_line, groups_behind, groups_of, joins, last_entry, number_of, parts_at, entry_of, starred_of, group_of}
+use Rattle.std.proofs.lemmas.List.{length-append, length-replicate}
+use Rattle.mr_sched.specs.Versions.{last_line}
+use Rattle.mr_sched.specs.Reading.{count_of, repeated_of, single}
 use Rattle.mr_sched.proofs.Numerals.{spelled_from_number, number_of-decimal}
 use Rattle.mr_sched.proofs.Parts.{parts_at-free, parts_at-append}
 use Rattle.mr_sched.proofs.VersionLaws.{together_same}

@@ -1,3 +1,4 @@
+mod Common
 pub mod EntryLaws
 pub mod FirstLines
 pub mod GroupLaws

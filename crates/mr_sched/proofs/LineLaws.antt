@@ -1,11 +1,6 @@
 -- A text has its lines, and no others.
-use Rattle.std.proofs.Common.{◌≡◌, ◌≢◌, ℕ, List, [], ◌∷◌, ◌++◌, refl, ap, ◌∙◌, append_assoc, inl, inr}
-use Rattle.std.specs.Prelude.{flat_map}
-use Rattle.std.specs.List.{AllByRecursion}
+use Rattle.mr_sched.proofs.Common.{◌≡◌, ◌≢◌, ℕ, List, [], ◌∷◌, ◌++◌, refl, ap, ◌∙◌, append_assoc, inl, inr, flat_map, AllByRecursion, ended, IsUnbroken, Lines, parts_at}
 use Rattle.std.proofs.lemmas.Bool.{cases_eq}
-use Rattle.mr_sched.specs.Spelling.{ended}
-use Rattle.mr_sched.specs.Faults.{IsUnbroken, Lines}
-use Rattle.mr_sched.specs.Reading.{parts_at}
 use Rattle.mr_sched.proofs.Parts.{parts_at-free, parts_at-append}
 
 regroup : (line more rest : List ℕ) → ((line ++ 10 ∷ []) ++ more) ++ rest ≡ line ++ (10 ∷ (more ++ rest))

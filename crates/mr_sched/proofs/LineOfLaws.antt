@@ -1,9 +1,7 @@
 -- The line of an entry holds it.
-use Rattle.std.proofs.Common.{◌≡◌, ℕ, suc, zero, ◌+◌, ◌-◌, ◌<◌, ◌≤◌, Bool, true, false, if◌then◌else◌, List, [], ◌∷◌, length, take, refl, ap, ◌∙◌, arith}
-use Rattle.mr_sched.specs.declared.schedule.Entry.{Entry}
-use Rattle.mr_sched.specs.declared.version.Group.{Group}
-use Rattle.mr_sched.specs.declared.version.Version.{Version}
-use Rattle.mr_sched.specs.Versions.{HoldsEntry, are_together, begun_to, entry_count, groups_behind, groups_of, is_joined, line_in}
+use Rattle.mr_sched.proofs.Common.{◌≡◌, ℕ, suc, zero, ◌+◌, ◌<◌, ◌≤◌, Bool, true, false, if◌then◌else◌, List, [], ◌∷◌, length, take, refl, ap, ◌∙◌, arith, Entry, Group, Version, are_together, begun_to, entry_count, groups_behind, groups_of, is_joined, line_in}
+use Rattle.std.proofs.Common.{◌-◌}
+use Rattle.mr_sched.specs.Versions.{HoldsEntry}
 use Rattle.mr_sched.proofs.VersionLaws.{joined_behind}
 
 -- a line more where a number of lines begin, unless the entry is joined

@@ -1,19 +1,10 @@
 -- Reading one item after the other, as the code does.
-use Rattle.std.proofs.Common.{◌≡◌, ℕ, ◌+◌, ◌^◌, ◌<◌, ◌≤◌, false, eqb, List, [], ◌∷◌, ◌++◌, length, Option, Some, None, Result, Ok, Err, refl, sym, ap, ◌∙◌, append_assoc, arith}
-use Rattle.std.specs.Prelude.{option_map, replicate, IfOk}
-use Rattle.std.specs.List.{join_with_byte}
-use Rattle.std.proofs.lemmas.Bool.{ne_eqb}
-use Rattle.std.proofs.lemmas.List.{append-nil, nil_from_length}
+use Rattle.mr_sched.proofs.Common.{◌≡◌, ℕ, ◌+◌, ◌^◌, ◌<◌, ◌≤◌, false, eqb, List, [], ◌∷◌, ◌++◌, length, Option, Some, None, Result, Ok, Err, refl, sym, ap, ◌∙◌, append_assoc, arith, option_map, replicate, IfOk, join_with_byte, ne_eqb, append-nil, nil_from_length, BAD_LINE, Entry, Group, Version, GroupFits, Fault, Gives, body_of, entries_from, group_of, line_then, number_of, on_entries, parts_at, parts_after, picks_of, starred_of, start_of}
 use Rattle.std.proofs.lemmas.List.Splits.{join_with_byte-slice_split}
 use Rattle.mr_sched.specs.declared.fault.SchedFault.{SchedFault}
 use Rattle.mr_sched.specs.declared.fault.SchedFault.TheVariants.{Bad, Memory}
-use Rattle.mr_sched.specs.declared.fault.TheConstants.{BAD_LINE}
-use Rattle.mr_sched.specs.declared.schedule.Entry.{Entry}
-use Rattle.mr_sched.specs.declared.version.Group.{Group}
 use Rattle.mr_sched.specs.declared.version.Read.{Read}
-use Rattle.mr_sched.specs.declared.version.Version.{Version}
-use Rattle.mr_sched.specs.Versions.{GroupFits}
-use Rattle.mr_sched.specs.Reading.{Fault, Gives, at_line, body_of, entries_from, group_of, line_then, number_of, on_entries, parts_at, parts_after, picks_of, starred_of, start_of}
+use Rattle.mr_sched.specs.Reading.{at_line}
 use Rattle.mr_sched.proofs.FirstLines.{body_of-line, entries_from-line}
 use Rattle.mr_sched.proofs.GroupLaws.{group_spelled, length_with}
 use Rattle.mr_sched.proofs.Parts.{parts_at-first}

@@ -1,16 +1,15 @@
 -- Numerals: the decimal text of a number spells it, and no other text does.
-use Rattle.std.proofs.Common.{◌≡◌, ℕ, zero, suc, ◌+◌, ◌*◌, ◌^◌, ◌<◌, ◌≤◌, true, false, cond, not, ◌&&◌, eqb, ltb, List, [], ◌∷◌, length, get_or, take, Option, Some, None, Result, Ok, Err, refl, sym, ap, arith, inl, inr}
-use Rattle.std.specs.Prelude.{decimal, option_and_then, SomeIff, OkIff}
+use Rattle.mr_sched.proofs.Common.{◌≡◌, ℕ, zero, suc, ◌+◌, ◌^◌, ◌<◌, ◌≤◌, true, false, cond, not, ◌&&◌, eqb, ltb, List, [], ◌∷◌, length, get_or, take, Option, Some, None, Result, Ok, Err, refl, sym, ap, arith, inl, inr, decimal, option_and_then, AllDigits, digits_value, and_parts, cases_Bool, cases_lt, lt-ltb, ltb-true, le-ltb, ne_eqb, eqb-false, not-true, false≢true, cond_some, decimal_is_IsNumeral, decimal_digit, number_of}
+use Rattle.std.proofs.Common.{◌*◌}
+use Rattle.std.specs.Prelude.{SomeIff, OkIff}
 use Rattle.std.specs.Result.{result_ok}
 use Rattle.std.specs.Str.{all_ascii_digits}
 use Rattle.std.specs.Char.{is_ascii_digit, digit_value}
-use Rattle.std.specs.Str.Parse.{AllDigits, digits_value}
-use Rattle.std.proofs.lemmas.Bool.{and_parts, and_from, cases_Bool, cases_lt, false_from_ne_true, lt-ltb, ltb-true, le-ltb, ne_eqb, eqb-false, not-true, not_from_false, false≢true}
-use Rattle.std.proofs.lemmas.Option.{cond_some}
+use Rattle.std.proofs.lemmas.Bool.{and_from, false_from_ne_true, not_from_false}
 use Rattle.std.proofs.lemmas.Str.Parse.{IsNumeralModel, numerals_by_value, tells_digits, tells_all_ascii_digits, digits_value-take-le}
 use Rattle.std.proofs.lemmas.Int.Digits.{digits_more, digits_value_more}
-use Rattle.std.proofs.lemmas.Fmt.{decimal_is_IsNumeral, decimal-digits_value, decimal_digit, first_decimal}
-use Rattle.mr_sched.specs.Reading.{is_numeral, number_of}
+use Rattle.std.proofs.lemmas.Fmt.{decimal-digits_value, first_decimal}
+use Rattle.mr_sched.specs.Reading.{is_numeral}
 
 digits : IsNumeralModel (AllDigits 10) (digits_value 10)
 digits = numerals_by_value _ tells_digits

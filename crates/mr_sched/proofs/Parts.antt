@@ -1,13 +1,11 @@
 -- The parts of a text between the bytes at which it is cut.
-use Rattle.std.proofs.Common.{◌≡◌, ◌≢◌, ℕ, ◌+◌, ◌<◌, ◌≤◌, Bool, true, false, cond, eqb, ltb, List, [], ◌∷◌, ◌++◌, length, take, drop, Some, None, All, refl, arith, inl, inr}
+use Rattle.mr_sched.proofs.Common.{◌≡◌, ◌≢◌, ℕ, ◌+◌, ◌<◌, ◌≤◌, Bool, true, false, cond, eqb, ltb, List, [], ◌∷◌, ◌++◌, length, take, drop, Some, None, refl, arith, inl, inr, AllByRecursion, ltb-true, ltb-false, ne_eqb, eq-eqb, cases_Bool, cond_some, parts_at}
+use Rattle.std.proofs.Common.{All}
 use Rattle.std.specs.Prelude.{position}
-use Rattle.std.specs.List.{position_or_len, AllByRecursion}
-use Rattle.std.proofs.lemmas.Bool.{ltb-true, ltb-false, ne_eqb, eq-eqb, cases_Bool}
-use Rattle.std.proofs.lemmas.Option.{cond_some}
+use Rattle.std.specs.List.{position_or_len}
 use Rattle.std.proofs.lemmas.List.Elements.{All-from_recursion}
 use Rattle.std.proofs.lemmas.List.Sums.{fails_before_first}
 use Rattle.std.proofs.lemmas.List.Splits.{slice_split_none, slice_split_first, slice_split_at}
-use Rattle.mr_sched.specs.Reading.{parts_at}
 use Rattle.mr_sched.proofs.FirstLines.{HasFirst}
 
 -- no such byte in the text

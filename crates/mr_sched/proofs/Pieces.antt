@@ -1,7 +1,6 @@
 -- What stands behind the old contents after some of a text was printed.
-use Rattle.std.proofs.Common.{◌≡◌, ℕ, List, ◌++◌, Result, Ok, Err, ap, ◌∙◌, append_assoc}
+use Rattle.mr_sched.proofs.Common.{◌≡◌, ℕ, List, ◌++◌, Result, Ok, Err, ap, ◌∙◌, append_assoc, Extends}
 use Rattle.std.specs.Prelude.{OnErr}
-use Rattle.mr_sched.specs.Spelling.{Extends}
 
 pub on_err_since : {T E P : Type 0} (r : Result T E) → P → OnErr r P
 on_err_since (Ok x) p = tt

@@ -1,23 +1,15 @@
 -- Reading a text: what is read is spelled so, and a fault is the first one.
-use Rattle.std.proofs.Common.{◌≡◌, ℕ, ◌^◌, ◌≤◌, ltb, List, [], ◌∷◌, ◌++◌, length, map, Option, Some, None, Result, Ok, Err, refl, sym, ap, subst, ◌∙◌, arith, inl, inr}
-use Rattle.std.specs.Prelude.{bytes_eq, codes, flat_map, IfOk}
-use Rattle.std.specs.List.{AllByRecursion}
-use Rattle.std.proofs.lemmas.Bool.{cases_Bool, ltb-true, ltb-false, lt-ltb, le-ltb}
-use Rattle.std.proofs.lemmas.List.{append-nil}
+use Rattle.mr_sched.proofs.Common.{◌≡◌, ℕ, ◌^◌, ◌≤◌, ltb, List, [], ◌∷◌, ◌++◌, length, map, Option, Some, None, Result, Ok, Err, refl, sym, ap, subst, ◌∙◌, arith, inl, inr, bytes_eq, codes, flat_map, IfOk, AllByRecursion, cases_Bool, ltb-true, ltb-false, lt-ltb, le-ltb, append-nil, BAD_LINE, TOO_LONG, Entry, Group, Version, One, Two, ended, start_line, EntryFits, AreLines, entry_count, group_line, groups_of, header_in, text_in, Lines, Fault, Gives, body_of, entries_from, header_then, lines_schedule, parts_at, start_of, start_then, version_of}
 use Rattle.std.proofs.lemmas.Slice.Eq.{bytes_eq-Decides}
-use Rattle.mr_sched.specs.declared.fault.TheConstants.{BAD_HEADER, BAD_LINE, TOO_LONG}
-use Rattle.mr_sched.specs.declared.schedule.Entry.{Entry}
+use Rattle.mr_sched.specs.declared.fault.TheConstants.{BAD_HEADER}
 use Rattle.mr_sched.specs.declared.schedule.Schedule.{Schedule}
-use Rattle.mr_sched.specs.declared.version.Group.{Group}
 use Rattle.mr_sched.specs.declared.version.Read.{Read}
-use Rattle.mr_sched.specs.declared.version.Version.{Version}
-use Rattle.mr_sched.specs.declared.version.Version.TheVariants.{One, Two}
-use Rattle.mr_sched.specs.Spelling.{ended, start_line, EntryFits, Fits}
-use Rattle.mr_sched.specs.Versions.{AreLines, Schedules, entry_count, group_line, groups_of, header_in, lines_in, text_in}
-use Rattle.mr_sched.specs.Faults.{Lines, IsStartLine, HasBadStart, BodyFails, HasBadHeader, LinesFail, FirstFault}
+use Rattle.mr_sched.specs.Spelling.{Fits}
+use Rattle.mr_sched.specs.Versions.{Schedules, lines_in}
+use Rattle.mr_sched.specs.Faults.{IsStartLine, HasBadStart, BodyFails, HasBadHeader, LinesFail, FirstFault}
 use Rattle.mr_sched.specs.declared.fault.SchedFault.{SchedFault}
 use Rattle.mr_sched.specs.declared.fault.SchedFault.TheVariants.{Bad}
-use Rattle.mr_sched.specs.Reading.{Fault, Gives, body_of, entries_from, header_then, lines_schedule, parts_at, schedule_of, start_of, start_then, version_of}
+use Rattle.mr_sched.specs.Reading.{schedule_of}
 use Rattle.mr_sched.proofs.FirstLines.{body_of-line, lines_schedule-line, rest_or_line}
 use Rattle.mr_sched.proofs.WordLaws.{start_spelled, start_again, header_unbroken, start_unbroken}
 use Rattle.mr_sched.proofs.LineLaws.{has_lines, parts_from_lines}

@@ -1,15 +1,10 @@
 -- Lines of entries, by version.
-use Rattle.std.proofs.Common.{◌++◌, append_assoc, codes, map, ◌≡◌, ℕ, suc, zero, ◌+◌, ◌<◌, ◌≤◌, refl, ap, sym, ◌∙◌, arith, ◌⊎◌, inl, inr, drop, Bool, true, false, if◌then◌else◌, List, [], ◌∷◌, length}
-use Rattle.std.specs.Prelude.{◌==◌, ◌&&◌, flat_map, replicate, slice_index_or}
-use Rattle.std.proofs.lemmas.Bool.{eqb-true, and_parts}
-use Rattle.std.proofs.lemmas.List.{nil_from_length, replicate-append-replicate}
-use Rattle.mr_sched.specs.declared.schedule.Entry.{Entry}
-use Rattle.mr_sched.specs.declared.version.Group.{Group}
-use Rattle.mr_sched.specs.declared.version.Version.{Version}
-use Rattle.mr_sched.specs.declared.version.Version.TheVariants.{One, Two}
+use Rattle.mr_sched.proofs.Common.{◌++◌, append_assoc, codes, map, ◌≡◌, ℕ, suc, zero, ◌+◌, ◌<◌, ◌≤◌, refl, ap, sym, ◌∙◌, arith, ◌⊎◌, inl, inr, drop, Bool, true, false, if◌then◌else◌, List, [], ◌∷◌, length, ◌&&◌, flat_map, replicate, slice_index_or, eqb-true, and_parts, nil_from_length, Entry, Group, Version, One, Two, Extends, ended, entry_line, spaced, start_line, are_together, begun_to, entries_in, group_line, groups_behind, groups_of, groups_text, header_in, is_joined, line_in, text_in}
+use Rattle.std.specs.Prelude.{◌==◌}
+use Rattle.std.proofs.lemmas.List.{replicate-append-replicate}
 use Rattle.mr_sched.specs.declared.schedule.Schedule.{Schedule}
-use Rattle.mr_sched.specs.Spelling.{Extends, ended, entry_line, spaced, start_line, text_of}
-use Rattle.mr_sched.specs.Versions.{are_together, begun_to, entries_in, group_line, groups_behind, groups_of, groups_text, has_no_pick, header_in, is_joined, line_in, no_entry, text_in}
+use Rattle.mr_sched.specs.Spelling.{text_of}
+use Rattle.mr_sched.specs.Versions.{has_no_pick, no_entry}
 
 pub line_next : (v : Version) (es : List Entry) (k : ℕ) → line_in v es (k + 1) ≡ (if is_joined v es k then line_in v es k else line_in v es k + 1)
 line_next v es k =

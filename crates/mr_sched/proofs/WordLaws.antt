@@ -1,22 +1,11 @@
 -- What the words of a line spell is spelled by that line, and no other.
-use Rattle.std.proofs.Common.{◌≡◌, ◌≢◌, ℕ, ◌^◌, ◌<◌, true, not, eqb, List, [], ◌∷◌, ◌++◌, map, Option, Some, None, refl, sym, ap, subst, ◌∙◌, arith, inl, inr}
-use Rattle.std.specs.Prelude.{option_map, option_and_then, decimal, codes, bytes_eq}
-use Rattle.std.specs.List.{join_with_byte, list_all}
-use Rattle.std.specs.Str.Parse.{AllDigits}
-use Rattle.std.proofs.lemmas.Bool.{and_parts, cases_Bool, not-true, eqb-false}
+use Rattle.mr_sched.proofs.Common.{◌≡◌, ◌≢◌, ℕ, ◌^◌, ◌<◌, true, not, eqb, List, [], ◌∷◌, ◌++◌, map, Option, Some, None, refl, sym, ap, subst, ◌∙◌, arith, inl, inr, option_map, option_and_then, decimal, codes, bytes_eq, join_with_byte, AllDigits, and_parts, cases_Bool, not-true, eqb-false, append-nil, decimal_is_IsNumeral, Entry, spaced, start_line, entry_line, EntryFits, Version, One, Two, header_in, IsUnbroken, number_of, parts_at, picks_of, start_of, entry_of}
+use Rattle.std.specs.List.{list_all}
 use Rattle.std.proofs.lemmas.Option.{same_Some}
-use Rattle.std.proofs.lemmas.List.{append-nil}
 use Rattle.std.proofs.lemmas.List.Splits.{join_with_byte-slice_split}
-use Rattle.std.proofs.lemmas.Fmt.{decimal_is_IsNumeral}
 use Rattle.std.proofs.lemmas.Slice.Eq.{bytes_eq-Decides}
 use Rattle.std.proofs.lemmas.Str.Parse.{digit_from_value}
-use Rattle.mr_sched.specs.declared.schedule.Entry.{Entry}
-use Rattle.mr_sched.specs.Spelling.{spaced, start_line, entry_line, PicksFit, EntryFits}
-use Rattle.mr_sched.specs.declared.version.Version.{Version}
-use Rattle.mr_sched.specs.declared.version.Version.TheVariants.{One, Two}
-use Rattle.mr_sched.specs.Versions.{header_in}
-use Rattle.mr_sched.specs.Faults.{IsUnbroken}
-use Rattle.mr_sched.specs.Reading.{number_of, parts_at, picks_of, start_of, entry_of}
+use Rattle.mr_sched.specs.Spelling.{PicksFit}
 use Rattle.mr_sched.proofs.Numerals.{spelled_from_number, number_of-decimal}
 use Rattle.mr_sched.proofs.Parts.{IsFreeOf, parts_at-free, parts_at-append}
 

@@ -1,44 +1,29 @@
 -- A run of thread 0 alone has no race by either order, so that what is told of its races needs no footprint.
-use Rattle.std.proofs.Common.{◌≡◌, ℕ, zero, suc, refl, sym, ap, ap₂, ◌∙◌, arith, Bool, true, false, List, [], ◌∷◌, ◌++◌, length, Option, Some, None}
+use Rattle.mr_show.proofs.Common.{◌≡◌, ℕ, zero, suc, refl, sym, ap, ap₂, ◌∙◌, arith, Bool, true, false, List, [], ◌∷◌, ◌++◌, length, Option, Some, None, ◌==◌, ◌&&◌, flat_map, Result, Ok, Err, Program, Footprint, Entry, Schedule, Standing, steps_of, RunFault, RunAnswer, Stand, Seen, either, Answer, spoken_of, Part, part_answer, IsToldAs, gathered}
 use Rattle.std.proofs.lemmas.Bool.Decides.{nat_tests}
-use Rattle.std.specs.Prelude.{◌==◌, ◌&&◌, flat_map, Result, Ok, Err}
-use Rattle.mr_ast.specs.declared.program.Program.{Program}
-use Rattle.mr_event.specs.Footprint.{Footprint}
-use Rattle.mr_event.specs.Order as order
 use Rattle.mr_event.specs.Order.{thread_at}
 use Rattle.mr_event.specs.Predicted.{predicted}
 use Rattle.mr_event.specs.declared.footprint.Pair.{Pair}
-use Rattle.mr_sched.specs.declared.schedule.Entry.{Entry}
-use Rattle.mr_sched.specs.declared.schedule.Schedule.{Schedule}
 use Rattle.mr_step.proofs.ExchangeLaw.{thread_noted}
 use Rattle.mr_step.specs.FrameFrames.{Look}
 use Rattle.mr_step.specs.PlanMachine.{Bare, Completed, IllFormedStep, State, Stops, bare}
 use Rattle.mr_step.specs.PlanRuns.{Config, feet, foot_from, foot_of_bare, machine_step}
-use Rattle.mr_step.specs.Standing.{Standing}
 use Rattle.mr_step.specs.StartStart.{look_of, start_config}
 use Rattle.mr_step.specs.ThreadSteps.{Own, thread_step}
-use Rattle.mr_start.specs.Runs.{run_of, steps_of}
-use Rattle.mr_run.specs.declared.fault.RunFault.{RunFault}
-use Rattle.mr_run.specs.Runs.{RunAnswer, are_of_first}
+use Rattle.mr_start.specs.Runs.{run_of}
+use Rattle.mr_run.specs.Runs.{are_of_first}
 use Rattle.mr_run.proofs.OneThread.{are_alone, none_alone, none_shown}
 use Rattle.mr_rust_order.specs.Tests.{rust_races}
 use Rattle.mr_rust_order.proofs.OneList.{none_listed, one_list}
 use Rattle.mr_rust_order.proofs.TestLaws.{rust_races_are}
-use Rattle.mr_labels.specs.declared.step.Stand.{Stand}
 use Rattle.mr_listing.specs.Races.{ranked}
-use Rattle.mr_listing.specs.Seen.{Seen}
-use Rattle.mr_two_orders.specs.Pairs.{either}
 use Rattle.mr_two_orders.specs.Standing.{head_line}
 use Rattle.mr_two_orders.specs.Texts.{machine_text, rust_texts, two_orders_text}
 use Rattle.mr_answer.specs.Report.{report_status}
-use Rattle.mr_input.specs.Answer.{Answer}
-use Rattle.mr_replay.specs.Spoken.{spoken_of}
 use Rattle.mr_replay.specs.Stands.{stands_of}
-use Rattle.mr_show.specs.declared.form.Part.{Part}
 use Rattle.mr_show.specs.declared.form.Part.TheVariants.{Json, Order, Picture, Races, Steps, TwoOrders}
-use Rattle.mr_show.specs.Answer.{lists_races, part_answer}
-use Rattle.mr_show.specs.Answering.{IsToldAs}
-use Rattle.mr_show.specs.Gathered.{gathered}
+use Rattle.mr_show.specs.Answer.{lists_races}
+use Rattle.mr_event.specs.Order as order
 
 both_true : (a b : Bool) → (a && b) ≡ true → (a ≡ true) × (b ≡ true)
 both_true true b h = (refl, h)

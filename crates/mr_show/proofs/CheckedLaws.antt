@@ -1,28 +1,11 @@
 -- What is said of a program by itself, and of a schedule of it, from what was read.
-use Rattle.std.proofs.Common.{◌≡◌, ℕ, ◌<◌, ◌≤◌, ◌^◌, ◌∙◌, ap, Bool, true, false, length, List, [], ◌∷◌, refl, subst}
-use Rattle.std.proofs.Common.{◌⊎◌, inl, inr, arith, sym}
-use Rattle.std.specs.Prelude.{nat_lt, if◌then◌else◌, Err, Ok, Option, None, Some, Result}
-use Rattle.mr_ast.specs.declared.program.Program.{Program}
-use Rattle.mr_lex.specs.declared.token.TextFault.{TextFault}
-use Rattle.mr_places.specs.GrammarParsing.{parsed}
-use Rattle.mr_typing.specs.declared.fault.FormFault.{FormFault}
-use Rattle.mr_typing.specs.Walk.{faults_of}
-use Rattle.mr_sched.specs.Reading.{Fault as TextOf, schedule_of}
-use Rattle.mr_sched.specs.declared.schedule.Schedule.{Schedule}
-use Rattle.mr_sched.specs.declared.version.Read.{Read}
-use Rattle.mr_sched.specs.declared.version.Version.{Version}
-use Rattle.mr_step.specs.PlanLegal.{Fault}
-use Rattle.mr_start.specs.Runs.{PlacedFault, schedule_fault}
+use Rattle.mr_show.proofs.Common.{◌≡◌, ℕ, ◌<◌, ◌≤◌, ◌^◌, ◌∙◌, ap, Bool, true, false, length, List, [], ◌∷◌, refl, subst, ◌⊎◌, inl, inr, arith, sym, nat_lt, if◌then◌else◌, Err, Ok, Option, None, Some, Result, Program, TextFault, parsed, FormFault, faults_of, Schedule, Read, Version, Fault, PlacedFault, schedule_fault, Refusal, Written, Answer, Tells, TellsOrUnread, refused, less}
 use Rattle.mr_start.specs.Start.{start_fault}
-use Rattle.mr_input.specs.declared.refusal.Refusal.{Refusal}
-use Rattle.mr_input.specs.declared.refusal.Refusal.TheVariants as refusal
-use Rattle.mr_input.specs.declared.written.Written.{Written}
-use Rattle.mr_input.specs.Answer.{Answer, Tells, TellsOrUnread, refused}
-use Rattle.mr_input.proofs.InputLaws.{less}
-use Rattle.mr_refusals.specs.Answers.{entries_answer, faults_answer, program_answer, read_answer, schedule_answer}
-use Rattle.mr_refusals.specs.Answers.{spelled_answer, start_answer, well_formed}
+use Rattle.mr_refusals.specs.Answers.{entries_answer, faults_answer, program_answer, read_answer, schedule_answer, spelled_answer, start_answer, well_formed}
 use Rattle.mr_show.specs.Answering.{IsCheckedUnder}
 use Rattle.mr_show.specs.Checked.{checked_file, checked_files, checked_under, unless_long, unless_long_schedule}
+use Rattle.mr_sched.specs.Reading.{Fault as TextOf, schedule_of}
+use Rattle.mr_input.specs.declared.refusal.Refusal.TheVariants as refusal
 use Rattle.mr_show.proofs.TracedLaws.{at_least}
 
 -- ---- texts that are too long, and those that aren't

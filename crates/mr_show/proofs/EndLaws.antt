@@ -1,17 +1,11 @@
 -- How a form that was answered ends.
-use Rattle.std.proofs.Common.{◌≡◌, ℕ, ap, sym, List, ◌⊎◌, inl, inr}
-use Rattle.std.specs.Prelude.{Some, Option, Err, Ok}
+use Rattle.mr_show.proofs.Common.{◌≡◌, ℕ, ap, sym, List, ◌⊎◌, inl, inr, Some, Option, Err, Ok, Refusal, Written, refused, same_refusal, answer_of, Bare, CheckedProgram, CheckedSchedule, Form, Help, Hunted, Shown, Why, Ends, IsPossible}
 use Rattle.mr_io.specs.Files.{Contents}
-use Rattle.mr_input.specs.declared.refusal.Refusal.{Refusal}
-use Rattle.mr_input.specs.declared.refusal.Refusal.TheVariants as refusal
-use Rattle.mr_input.specs.declared.written.Written.{Written}
-use Rattle.mr_input.specs.Answer.{refused, seen}
+use Rattle.mr_input.specs.Answer.{seen}
 use Rattle.mr_input.specs.Writing.{IsLeft, IsRefusedOrLeft, IsWritten}
-use Rattle.mr_input.proofs.RefusedLaws.{left_or_written, refusal_told, same_refusal}
-use Rattle.mr_show.specs.Answer.{answer_of}
+use Rattle.mr_input.proofs.RefusedLaws.{left_or_written, refusal_told}
 use Rattle.mr_show.specs.Answering.{IsAnswered}
-use Rattle.mr_show.specs.Form.{Bare, CheckedProgram, CheckedSchedule, Form, Help, Hunted, Shown, Why}
-use Rattle.mr_show.specs.Outcome.{Ends, IsPossible}
+use Rattle.mr_input.specs.declared.refusal.Refusal.TheVariants as refusal
 
 module _ (files : Contents) (files_rose out_rose : Type 0) (old new : Option (List ℕ)) (status : ℕ) where
   pub written_ends : (form : Form) (a : Written) → IsAnswered files form files_rose (Ok a)

@@ -1,20 +1,13 @@
 -- What an order becomes, as it is answered.
-use Rattle.std.proofs.Common.{◌≡◌, ℕ, ◌<◌, ◌^◌, ◌∙◌, ap, length, List, refl, subst, sym}
-use Rattle.std.specs.Prelude.{Err, None, Ok, Option, Result, Some}
-use Rattle.mr_ast.specs.declared.program.Program.{Program}
+use Rattle.mr_show.proofs.Common.{◌≡◌, ℕ, ◌<◌, ◌^◌, ◌∙◌, ap, length, List, refl, subst, sym, Err, None, Ok, Option, Result, Some, Program, Refusal, Written, Tells, refused, told, less, longer, filled_answer, order_answer, order_in, unless_bad}
 use Rattle.mr_sched.specs.Reading.{Fault, Gives}
 use Rattle.mr_sched.specs.declared.fault.SchedFault.TheVariants.{Bad}
-use Rattle.mr_input.specs.declared.refusal.Refusal.{Refusal}
-use Rattle.mr_input.specs.declared.refusal.Refusal.TheVariants as refusal
-use Rattle.mr_input.specs.declared.written.Written.{Written}
-use Rattle.mr_input.specs.Answer.{Tells, refused, told}
-use Rattle.mr_input.proofs.InputLaws.{less, longer}
 use Rattle.mr_fill.specs.Orders.{order_of}
 use Rattle.mr_fill.specs.Told.{texts_from, texts_of}
 use Rattle.mr_fill.specs.declared.order.Turn.{Turn}
 use Rattle.mr_fill.specs.declared.told.FilledText.{FilledText}
 use Rattle.mr_show.specs.declared.form.Filling.{Filling}
-use Rattle.mr_show.specs.Filled.{filled_answer, order_answer, order_in, unless_bad}
+use Rattle.mr_input.specs.declared.refusal.Refusal.TheVariants as refusal
 
 module _ (filling : Filling) (p : Program) where
   -- the texts that it becomes are told

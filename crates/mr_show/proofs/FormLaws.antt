@@ -1,5 +1,5 @@
 -- Words that no form has.
-use Rattle.std.proofs.Common.{◌≡◌, ℕ, ◌≤◌, List, [], ◌∷◌, None, arith, length, refl}
+use Rattle.mr_show.proofs.Common.{◌≡◌, ℕ, ◌≤◌, List, [], ◌∷◌, None, arith, length, refl}
 use Rattle.mr_show.specs.Form.{long_form}
 
 -- no form has more than seven words

@@ -1,20 +1,9 @@
 -- A hunt over a file, as it is answered.
-use Rattle.std.proofs.Common.{◌≡◌, ap, List, ℕ, ◌⊎◌, inl, inr, [], subst, sym, ◌∙◌}
-use Rattle.std.specs.Prelude.{Err, Ok, Option, None, Result, Some}
-use Rattle.mr_ast.specs.declared.program.Program.{Program}
-use Rattle.mr_places.specs.GrammarParsing.{parsed}
-use Rattle.mr_lex.specs.declared.token.TextFault.{TextFault}
-use Rattle.mr_typing.specs.declared.fault.FormFault.{FormFault}
-use Rattle.mr_typing.specs.Walk.{WellFormed}
+use Rattle.mr_show.proofs.Common.{◌≡◌, ap, List, ℕ, ◌⊎◌, inl, inr, [], subst, sym, ◌∙◌, Err, Ok, Option, None, Result, Some, Program, parsed, TextFault, FormFault, WellFormed, Refusal, Written, Answer, Tells, form_or, told, Gives, IsNoText, denoted, program_in, refused_over, same_refusal, hunt_answer, hunted_file, hunted_program}
 use Rattle.mr_show.specs.Seek.{Seek}
-use Rattle.mr_input.specs.declared.refusal.Refusal.{Refusal}
-use Rattle.mr_input.specs.declared.written.Written.{Written}
-use Rattle.mr_input.specs.Answer.{Answer, Tells, form_or, told}
-use Rattle.mr_input.specs.Inputs.{Gives, IsNoText, denoted, program_in}
-use Rattle.mr_input.proofs.RefusedLaws.{refused_over, same_refusal}
 use Rattle.mr_show.specs.declared.form.Range.{Range}
 use Rattle.mr_show.specs.Answering.{IsHunted}
-use Rattle.mr_show.specs.Hunted.{hunt_answer, hunted_file, hunted_program, hunted_text}
+use Rattle.mr_show.specs.Hunted.{hunted_text}
 
 module _ (range : Range) (seek : Seek) (name : List ℕ) where
   -- a program that breaks no rule is answered by its runs

@@ -1,5 +1,6 @@
 pub mod AloneLaws
 pub mod CheckedLaws
+mod Common
 pub mod EndLaws
 pub mod FillLaws
 pub mod FormLaws

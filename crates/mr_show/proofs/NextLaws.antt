@@ -1,29 +1,19 @@
 -- How far a schedule goes, as it is told.
-use Rattle.std.proofs.Common.{◌≡◌, ℕ, ◌-◌, ◌++◌, ◌∙◌, ap, ap₂, inl, refl, sym, List}
-use Rattle.std.specs.Prelude.{Err, Option, None, Some, slice_get}
+use Rattle.mr_show.proofs.Common.{◌≡◌, ℕ, ◌-◌, ◌++◌, ◌∙◌, ap, ap₂, inl, refl, sym, List, Err, Option, None, Some, Program, Entry, Schedule, Version, schedule_fault, Standing, RunFault, Answer, Tells, refused, next_from, reached_answer, threads_told}
+use Rattle.std.specs.Prelude.{slice_get}
 use Rattle.std.specs.Option.{option_map}
-use Rattle.mr_ast.specs.declared.program.Program.{Program}
-use Rattle.mr_sched.specs.declared.schedule.Entry.{Entry}
-use Rattle.mr_sched.specs.declared.schedule.Schedule.{Schedule}
-use Rattle.mr_sched.specs.declared.version.Version.{Version}
-use Rattle.mr_start.specs.Runs.{schedule_fault}
-use Rattle.mr_step.specs.Standing.{Standing}
-use Rattle.mr_run.specs.declared.fault.RunFault.{RunFault}
-use Rattle.mr_run.specs.declared.fault.RunFault.TheVariants.{Broken as Breaks, Memory}
 use Rattle.mr_run.specs.Runs.{HasPlace}
-use Rattle.mr_input.specs.declared.refusal.Refusal.TheVariants as refusal
-use Rattle.mr_input.specs.Answer.{Answer, Tells, refused}
 use Rattle.mr_answer.specs.Answers.{line_at}
 use Rattle.mr_answer.specs.Running.{refusal_by}
 use Rattle.mr_next.specs.Reached.{GoesTo, IsCulprit, IsOfStart, placed_of}
 use Rattle.mr_next.specs.Texts.{broken_text}
 use Rattle.mr_next.specs.declared.broken.Broken.{Broken}
 use Rattle.mr_next.specs.declared.reaching.Reached.{Reached}
-use Rattle.mr_show.specs.Next.{entry_told, fault_told, front_answer, next_answer, next_from, next_status}
-use Rattle.mr_show.specs.Next.{reached_answer}
-use Rattle.mr_show.specs.Next.{threads_told}
+use Rattle.mr_show.specs.Next.{entry_told, fault_told, front_answer, next_answer, next_status}
 use Rattle.mr_show.specs.Reached.{broken_told, entry_lines, status_by}
 use Rattle.mr_show.specs.Sentences.{sentence_of}
+use Rattle.mr_run.specs.declared.fault.RunFault.TheVariants.{Broken as Breaks, Memory}
+use Rattle.mr_input.specs.declared.refusal.Refusal.TheVariants as refusal
 
 -- ---- an entry that breaks a rule
 

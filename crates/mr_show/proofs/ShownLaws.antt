@@ -1,42 +1,18 @@
 -- What is said of a run, from how its parts are answered.
-use Rattle.std.proofs.Common.{◌≡◌, ℕ, ◌<◌, ◌≤◌, ◌^◌, arith, ap, sym, ◌∙◌, subst, length, List, [], inl, inr}
-use Rattle.std.specs.Prelude.{OnOk, Option, None, Some, Result, Ok, Err}
-use Rattle.mr_ast.specs.declared.program.Program.{Program}
-use Rattle.mr_lex.specs.Reading.{lexed}
+use Rattle.mr_show.proofs.Common.{◌≡◌, ℕ, ◌<◌, ◌≤◌, ◌^◌, arith, ap, sym, ◌∙◌, subst, length, List, [], inl, inr, OnOk, Option, None, Some, Result, Ok, Err, Program, lexed, TextFault, parsed, FormFault, WellFormed, Footprint, Schedule, Version, PlacedFault, steps_of, Standing, RunFault, RunAnswer, Refusal, Written, Answer, Tells, TellsOrUnread, form_or, told, Gives, IsNoText, denoted, program_in, refused_over, same_refusal, Allocation, Stand, Part, Saying, spoken_of, answer_under, file_answer, part_answer, part_values, program_answer, rows_in, run_seen, stands_in, steps_in, told_values, gathered, IsOfFile, IsOfText, IsToldAs}
 use Rattle.mr_lex.specs.Tokens.{Lexeme}
-use Rattle.mr_lex.specs.declared.token.TextFault.{TextFault}
 use Rattle.mr_places.specs.GrammarFaults.{OfTokens}
-use Rattle.mr_places.specs.GrammarParsing.{parsed}
 use Rattle.mr_places.proofs.GrammarParsingLaws.{fault_parsed}
-use Rattle.mr_typing.specs.declared.fault.FormFault.{FormFault}
-use Rattle.mr_typing.specs.Walk.{WellFormed}
-use Rattle.mr_event.specs.Footprint.{Footprint}
-use Rattle.mr_sched.specs.declared.schedule.Schedule.{Schedule}
-use Rattle.mr_sched.specs.declared.version.Version.{Version}
-use Rattle.mr_start.specs.Runs.{PlacedFault, steps_of}
 use Rattle.mr_start.proofs.RunLaws.{no_schedule_fault}
-use Rattle.mr_step.specs.Standing.{Standing}
-use Rattle.mr_run.specs.declared.fault.RunFault.{RunFault}
 use Rattle.mr_run.specs.declared.fault.RunFault.TheVariants.{Broken, Memory}
-use Rattle.mr_run.specs.Runs.{IsFirstFault, IsRun, RunAnswer}
+use Rattle.mr_run.specs.Runs.{IsFirstFault, IsRun}
 use Rattle.mr_run.proofs.StepCount.{steps_within}
-use Rattle.mr_input.specs.declared.refusal.Refusal.{Refusal}
-use Rattle.mr_input.specs.declared.written.Written.{Written}
-use Rattle.mr_input.specs.Answer.{Answer, Tells, TellsOrUnread, form_or, told}
-use Rattle.mr_input.specs.Inputs.{Gives, IsNoText, denoted, program_in}
-use Rattle.mr_input.proofs.RefusedLaws.{refused_over, same_refusal}
 use Rattle.mr_answer.specs.Answers.{unless_broken}
 use Rattle.mr_answer.specs.Running.{refusal_by}
-use Rattle.mr_labels.specs.declared.rows.Allocation.{Allocation}
-use Rattle.mr_labels.specs.declared.step.Stand.{Stand}
 use Rattle.mr_labels.specs.declared.step.ToldStep.{ToldStep}
-use Rattle.mr_show.specs.declared.form.Part.{Part}
-use Rattle.mr_show.specs.declared.form.Saying.{Saying}
-use Rattle.mr_replay.specs.Spoken.{spoken_of}
-use Rattle.mr_show.specs.Answer.{answer_under, file_answer, part_answer, part_values, program_answer, ran_answer}
-use Rattle.mr_show.specs.Answer.{rows_in, run_seen, stands_in, steps_in, told_for, told_values}
-use Rattle.mr_show.specs.Gathered.{gathered, lexemes_in}
-use Rattle.mr_show.specs.Answering.{IsOfFile, IsOfProgram, IsOfText, IsScheduleUnread, IsToldAs}
+use Rattle.mr_show.specs.Answer.{ran_answer, told_for}
+use Rattle.mr_show.specs.Gathered.{lexemes_in}
+use Rattle.mr_show.specs.Answering.{IsOfProgram, IsScheduleUnread}
 
 -- ---- the run
 

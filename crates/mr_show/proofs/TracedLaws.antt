@@ -1,32 +1,20 @@
 -- What is said of a file that may hold a trace.
-use Rattle.std.proofs.Common.{◌≡◌, ℕ, ◌<◌, ◌≤◌, ◌^◌, ◌∙◌, ap, ap₂, Bool, true, false, length, List, refl, subst, sym}
-use Rattle.std.proofs.Common.{◌⊎◌, inl, inr, arith}
+use Rattle.mr_show.proofs.Common.{◌≡◌, ℕ, ◌<◌, ◌≤◌, ◌^◌, ◌∙◌, ap, ap₂, Bool, true, false, length, List, refl, subst, sym, ◌⊎◌, inl, inr, arith, ◌&&◌, nat_lt, codes, take, if◌then◌else◌, Err, Ok, Option, None, Some, Result, trace_of, Footprint, Refusal, Written, Answer, Tells, TellsOrUnread, refused, told, less, Untold, named_of, run_in, seen_bare, seen_in, Saying, bytes_answer, file_answer, program_answer, shown_answer, text_answer, IsOfFile, IsOfText, IsTextOf, alone_telling, bare_answer, count_of, holds_trace, placed_answer, places_answer, seen_answer, telling_of}
 use Rattle.std.proofs.lemmas.Bool.Decides.{nat_tests}
-use Rattle.std.specs.Prelude.{◌&&◌, nat_le, nat_lt, bytes_eq, codes, take, if◌then◌else◌, Err, Ok, Option, None, Some}
-use Rattle.std.specs.Prelude.{Result}
-use Rattle.mr_trace.specs.Reading.{trace_of, Place}
-use Rattle.mr_event.specs.Footprint.{Footprint}
-use Rattle.mr_input.specs.declared.refusal.Refusal.{Refusal}
-use Rattle.mr_input.specs.declared.refusal.Refusal.TheVariants as refusal
-use Rattle.mr_input.specs.declared.written.Written.{Written}
-use Rattle.mr_input.specs.Answer.{Answer, Tells, TellsOrUnread, refused, told}
-use Rattle.mr_input.proofs.InputLaws.{less, long_program}
+use Rattle.std.specs.Prelude.{nat_le, bytes_eq}
+use Rattle.mr_trace.specs.Reading.{Place}
+use Rattle.mr_input.proofs.InputLaws.{long_program}
 use Rattle.mr_traced.specs.declared.refusal.PlacesFault.TheVariants.{TooLong}
-use Rattle.mr_traced.specs.declared.refusal.Untold.{Untold}
-use Rattle.mr_traced.specs.declared.refusal.Untold.TheVariants as untold
 use Rattle.mr_traced.specs.declared.telling.Told.{Told}
-use Rattle.mr_traced.specs.Answers.{Tells as AreTold, TellsBy}
-use Rattle.mr_traced.specs.Places.{named_of}
-use Rattle.mr_traced.specs.Seen.{Seen, run_in, seen_bare, seen_in}
+use Rattle.mr_traced.specs.Seen.{Seen}
 use Rattle.mr_show.specs.declared.form.Alone.{Alone}
-use Rattle.mr_show.specs.declared.form.Saying.{Saying}
 use Rattle.mr_show.specs.declared.form.Telling.{Telling}
-use Rattle.mr_show.specs.Answer.{bytes_answer, file_answer, program_answer, shown_answer, text_answer}
-use Rattle.mr_show.specs.Answering.{IsBare, IsOfBytes, IsOfFile, IsOfFiles, IsOfText}
+use Rattle.mr_show.specs.Answering.{IsBare, IsOfBytes, IsOfFiles}
 use Rattle.mr_show.specs.Second.{HoldsTrace}
-use Rattle.mr_show.specs.Traced.{IsTextOf, alone_telling, bare_answer, count_of, holds_trace, placed_answer}
-use Rattle.mr_show.specs.Traced.{places_answer, seen_answer, status_of}
-use Rattle.mr_show.specs.Traced.{telling_of, telling_text, text_placed}
+use Rattle.mr_show.specs.Traced.{status_of, telling_text, text_placed}
+use Rattle.mr_input.specs.declared.refusal.Refusal.TheVariants as refusal
+use Rattle.mr_traced.specs.declared.refusal.Untold.TheVariants as untold
+use Rattle.mr_traced.specs.Answers.{Tells as AreTold, TellsBy}
 
 -- ---- what is told of a trace
 

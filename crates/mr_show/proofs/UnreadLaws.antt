@@ -1,62 +1,30 @@
 -- Why a file was not read: what the status 6 of an answer tells.
-use Rattle.std.proofs.Common.{◌≡◌, ℕ, ◌≤◌, ◌^◌, Bool, true, false, ap, arith, length, refl, subst, sym, ◌∙◌, List, []}
-use Rattle.std.proofs.Common.{◌∷◌, ◌⊎◌, inl, inr}
-use Rattle.std.specs.Prelude.{◌==◌, nat_lt, if◌then◌else◌, None, Some, Option, Result, Ok, Err}
-use Rattle.mr_ast.specs.declared.program.Program.{Program}
+use Rattle.mr_show.proofs.Common.{◌≡◌, ℕ, ◌≤◌, ◌^◌, Bool, true, false, ap, arith, length, refl, subst, sym, ◌∙◌, List, [], ◌∷◌, ◌⊎◌, inl, inr, ◌==◌, nat_lt, if◌then◌else◌, None, Some, Option, Result, Ok, Err, Program, TextFault, parsed, Schedule, Read, Version, Fault, PlacedFault, schedule_fault, FormFault, faults_of, Answer, form_or, told, denoted, Seen, spoken_of, Part, Saying, answer_of, answer_under, bytes_answer, next_under, part_answer, program_answer, ran_under, run_seen, shown_answer, text_answer, told_values, why_answer, filled_answer, unless_bad, next_from, reached_answer, first_met, laid_in, found_answer, hunt_answer, hunted_file, hunted_program, most_in, lexed, trace_of, Untold, named_of, entry_of, Bare, CheckedProgram, CheckedSchedule, Form, Help, Hunted, Shown, Why, Ends, IsPossible, alone_telling, bare_answer, count_of, holds_trace, placed_answer, places_answer, seen_answer, telling_of, either}
 use Rattle.mr_io.specs.Files.{Contents}
-use Rattle.mr_lex.specs.declared.token.TextFault.{TextFault}
-use Rattle.mr_places.specs.GrammarParsing.{parsed}
-use Rattle.mr_sched.specs.Reading.{Fault as TextOf, schedule_of}
-use Rattle.mr_sched.specs.declared.schedule.Schedule.{Schedule}
-use Rattle.mr_sched.specs.declared.version.Read.{Read}
-use Rattle.mr_sched.specs.declared.version.Version.{Version}
-use Rattle.mr_step.specs.PlanLegal.{Fault}
-use Rattle.mr_start.specs.Runs.{PlacedFault, schedule_fault}
 use Rattle.mr_start.specs.Start.{start_fault}
-use Rattle.mr_typing.specs.declared.fault.FormFault.{FormFault}
-use Rattle.mr_typing.specs.Walk.{faults_of}
-use Rattle.mr_input.specs.Answer.{Answer, form_or, told}
-use Rattle.mr_input.specs.Inputs.{AsksForSchedule, denoted, spelled}
+use Rattle.mr_input.specs.Inputs.{AsksForSchedule, spelled}
 use Rattle.mr_input.proofs.RefusedLaws.{written_status}
 use Rattle.mr_answer.specs.Answers.{unless_broken}
 use Rattle.mr_answer.proofs.StatusLaws.{at_most_one}
 use Rattle.mr_fill.specs.Told.{texts_of}
 use Rattle.mr_fill.specs.declared.told.FilledText.{FilledText}
 use Rattle.mr_listing.specs.declared.held.StepValues.{StepValues}
-use Rattle.mr_listing.specs.Seen.{Seen}
 use Rattle.mr_base.specs.declared.reached.Reached.{Reached}
-use Rattle.mr_replay.specs.Spoken.{spoken_of}
 use Rattle.mr_show.specs.declared.form.Alone.{Alone}
-use Rattle.mr_show.specs.declared.form.Part.{Part}
-use Rattle.mr_show.specs.declared.form.Saying.{Saying}
 use Rattle.mr_show.specs.declared.form.Saying.TheVariants.{Next, OfOrder, OfRun}
 use Rattle.mr_show.specs.declared.form.Filling.{Filling}
-use Rattle.mr_show.specs.Answer.{answer_of, answer_under, bytes_answer, next_under, part_answer, program_answer}
-use Rattle.mr_show.specs.Answer.{ran_under, rust_of}
-use Rattle.mr_show.specs.Answer.{run_seen, shown_answer, text_answer, told_values, usage, why_answer}
-use Rattle.mr_show.specs.Filled.{filled_answer, unless_bad}
-use Rattle.mr_show.specs.Next.{next_from, reached_answer}
-use Rattle.mr_hunt.specs.Aims.{Aim, first_met}
-use Rattle.mr_show.specs.Seek.{Drawn, First, Seek, Ends as AllEnds}
+use Rattle.mr_show.specs.Answer.{rust_of, usage}
+use Rattle.mr_hunt.specs.Aims.{Aim}
 use Rattle.mr_show.specs.declared.form.Range.{Range}
-use Rattle.mr_show.specs.Gathered.{laid_in}
-use Rattle.mr_show.specs.Hunted.{found_answer, hunt_answer, hunted_file, hunted_program, most_in}
-use Rattle.mr_lex.specs.Reading.{lexed}
-use Rattle.mr_trace.specs.Reading.{trace_of}
 use Rattle.mr_traced.specs.declared.refusal.PlacesFault.TheVariants.{TooLong}
-use Rattle.mr_traced.specs.declared.refusal.Untold.{Untold}
-use Rattle.mr_traced.specs.declared.refusal.Untold.TheVariants as untold
-use Rattle.mr_traced.specs.Places.{named_of}
-use Rattle.mr_traced.specs.Seen.{Seen as TraceSeen, run_in, seen_bare, seen_in}
 use Rattle.mr_show.specs.declared.form.Telling.{Telling}
-use Rattle.mr_why.specs.Why.{Entry, entry_of}
-use Rattle.mr_show.specs.Form.{Bare, CheckedProgram, CheckedSchedule, Form, Help, Hunted, Shown, Why}
-use Rattle.mr_show.specs.Outcome.{Ends, IsPossible}
+use Rattle.mr_why.specs.Why.{Entry}
 use Rattle.mr_show.specs.Second.{AsksForSecond, HoldsTrace}
-use Rattle.mr_show.specs.Traced.{alone_telling, bare_answer, count_of, holds_trace, placed_answer, places_answer}
-use Rattle.mr_show.specs.Traced.{seen_answer, telling_of}
-use Rattle.mr_two_orders.specs.Pairs.{either}
 use Rattle.mr_show.specs.Unread.{IsUnreadBecause, LacksFile}
+use Rattle.mr_sched.specs.Reading.{Fault as TextOf, schedule_of}
+use Rattle.mr_show.specs.Seek.{Drawn, First, Seek, Ends as AllEnds}
+use Rattle.mr_traced.specs.declared.refusal.Untold.TheVariants as untold
+use Rattle.mr_traced.specs.Seen.{Seen as TraceSeen, run_in, seen_bare, seen_in}
 use Rattle.mr_show.proofs.CheckedLaws.{checked_six, files_six}
 
 -- ---- the status of an answer

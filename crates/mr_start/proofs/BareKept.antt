@@ -1,35 +1,18 @@
 -- A bare step of a legal entry from a state that keeps what each state keeps has a rule, and leaves one that keeps it.
-use Rattle.std.proofs.Common.{◌≡◌, ℕ, ◌<◌, refl, subst, sym, ap, ◌∙◌, arith, List, length, Option, Some, None}
-use Rattle.std.proofs.lemmas.Option.{same_Some, slice_get_within}
-use Rattle.std.specs.Prelude.{slice_get}
-use Rattle.mr_ast.specs.declared.program.Program.{Program}
-use Rattle.mr_base.specs.declared.thread.Status.{Status}
-use Rattle.mr_base.specs.declared.thread.Status.TheVariants.{Enabled, Ended, OnJoin, OnLock}
+use Rattle.mr_start.proofs.Common.{◌≡◌, ℕ, ◌<◌, refl, subst, sym, ap, ◌∙◌, arith, List, length, Option, Some, None, same_Some, slice_get_within, slice_get, Program, Status, Enabled, Ended, OnJoin, OnLock, Outcome, Went, Broken, on, run, start_tally, needs_fault, state_fault, Aborts, Bare, Completed, Exits, Goes, IllFormedStep, Plan, State, Stops, Thread, bare, Notes, start_notes, Shared, StepScript, answer, AreHeld, Slot, frame_slots, no_faults, MemoryFacts, After, FitsStack, IsLook, Look, DueDo, next_do, SoundState, Own, Turn, thread_step, item_there}
 use Rattle.mr_frame.specs.TypingWalk.{WellFormed}
-use Rattle.mr_base.specs.Script.{Outcome, Went, Refused, Broken, on, run}
+use Rattle.mr_base.specs.Script.{Refused}
 use Rattle.mr_base.proofs.ScriptRuns.{run_bind}
-use Rattle.mr_frame.specs.EvalTally.{start_tally}
-use Rattle.mr_frame.specs.PlanLegal.{count_of, needs_fault, state_fault, status_fault}
-use Rattle.mr_frame.specs.PlanMachine.{Aborts, Bare, Completed, Exits, Goes, IllFormedStep, Plan, State, Stops, Thread, acted, bare, needs, needed, needs_of, settled}
-use Rattle.mr_frame.specs.PlanNotes.{Notes, start_notes}
-use Rattle.mr_frame.specs.PlanQueries.{Shared, StepScript, answer}
-use Rattle.mr_frame.specs.PlanStorage.{AreHeld, Slot}
-use Rattle.mr_frame.specs.Storage.{frame_slots}
-use Rattle.mr_frame.proofs.PlanLegalLaws.{no_faults}
-use Rattle.mr_frame.proofs.PlanMemoryFacts.{MemoryFacts, start_facts}
-use Rattle.mr_frame.proofs.PlanOutcomes.{After}
-use Rattle.mr_frame.specs.Fits.{FitsStack, IsLook}
-use Rattle.mr_frame.specs.Frames.{Look}
-use Rattle.mr_frame.specs.Operations.{DueDo, next_do}
+use Rattle.mr_frame.specs.PlanLegal.{count_of, status_fault}
+use Rattle.mr_frame.specs.PlanMachine.{acted, needs, needed, needs_of, settled}
+use Rattle.mr_frame.proofs.PlanMemoryFacts.{start_facts}
 use Rattle.mr_frame.proofs.DoSafe.{do_stands}
-use Rattle.mr_start.specs.SoundState.{SoundState}
-use Rattle.mr_start.specs.Steps.{Own, Turn, own_step, step_due, thread_step}
+use Rattle.mr_start.specs.Steps.{own_step, step_due}
 use Rattle.mr_start.proofs.DoTurn.{do_turn}
 use Rattle.mr_start.proofs.FrameTurn.{PlanTurns, frame_turn}
 use Rattle.mr_start.proofs.Settled.{settled_sound}
 use Rattle.mr_start.proofs.ThreadRooms.{in_front_of_others, other_slots}
 use Rattle.mr_start.proofs.Turns.{AfterTurn}
-use Rattle.mr_base.proofs.Lists.{item_there}
 
 -- what a bare step comes to: a state that keeps it all, or a verdict
 abbrev pub SoundBare : Program → Bare Own → Type 0

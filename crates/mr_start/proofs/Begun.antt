@@ -1,26 +1,18 @@
 -- The start as the code makes it.
-use Rattle.std.proofs.Common.{◌≡◌, ℕ, ◌+◌, ◌-◌, ◌≤◌, refl, sym, ap, ◌∙◌, subst, arith, List, [], length, map, drop, take, length-drop, Err}
-use Rattle.std.proofs.lemmas.List.{length-map, take-map, take_all}
+use Rattle.mr_start.proofs.Common.{◌≡◌, ℕ, ◌+◌, ◌-◌, ◌≤◌, refl, sym, ap, ◌∙◌, subst, arith, List, [], length, map, drop, take, length-drop, Err, length-map, take_all, All, None, slice_get, Program, Pointer, Memory, WellFormed, Stack, IsPossible, JudgeAnswer, before_frame, first_placed, piece_of, pieces_fault, return_pointer, new_thread, Piece, look_of, pieces, start_config, start_fault, start_frame, start_memory, start_placed}
+use Rattle.std.proofs.lemmas.List.{take-map}
 use Rattle.std.proofs.lemmas.List.Elements.{All-take}
-use Rattle.std.specs.Prelude.{All, None, slice_get}
-use Rattle.mr_ast.specs.declared.program.Program.{Program}
-use Rattle.mr_base.specs.declared.byte.Pointer.{Pointer}
-use Rattle.mr_mem.specs.Memory.{Memory}
-use Rattle.mr_typing.specs.Walk.{WellFormed}
 use Rattle.mr_eval.specs.Tally.{start_tally}
 use Rattle.mr_eval.specs.World.{World}
-use Rattle.mr_frame.specs.declared.look.Look.{Look as KeptLook}
 use Rattle.mr_frame.specs.Beginning.{CanBegin, IsBottom}
 use Rattle.mr_frame.specs.Effects.{entered}
-use Rattle.mr_frame.specs.Frames.{Stack}
 use Rattle.mr_frame.specs.Kept.{IsReady}
 use Rattle.mr_start.specs.declared.beginning.StartFault.{StartFault}
+use Rattle.mr_start.specs.declared.placing.Begun.{Begun}
+use Rattle.mr_start.specs.Begin.{BeginAnswer, IsBegun, IsPlaced, standing}
+use Rattle.mr_frame.specs.declared.look.Look.{Look as KeptLook}
 use Rattle.mr_start.specs.declared.beginning.StartFault.TheVariants as refused
 use Rattle.mr_start.specs.declared.pieces.Piece.{Piece as Made}
-use Rattle.mr_start.specs.declared.placing.Begun.{Begun}
-use Rattle.mr_start.specs.Begin.{BeginAnswer, IsBegun, IsPlaced, IsPossible, JudgeAnswer, before_frame, first_placed, piece_of, pieces_fault, return_pointer, standing}
-use Rattle.mr_start.specs.Steps.{new_thread}
-use Rattle.mr_start.specs.Start.{Piece, look_of, pieces, start_config, start_fault, start_frame, start_memory, start_placed}
 use Rattle.mr_start.proofs.Entering.{can_begin, entered_is_start, first_length, front_is_legal, functions_are, functions_many, globals_are, globals_many, picks_are, pieces_are}
 use Rattle.mr_start.proofs.StartFacts.{all_behind, pieces_possible}
 

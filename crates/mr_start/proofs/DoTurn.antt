@@ -1,53 +1,30 @@
 -- The turn of a thread whose next step is an intrinsic.
-use Rattle.std.proofs.Common.{◌≡◌, ◌≢◌, ℕ, ◌<◌, ◌+◌, ◌^◌, refl, subst, sym, ap, ◌∙◌, arith, List, [], ◌∷◌, ◌++◌, length, Option, Some, None, Bool, true, false}
+use Rattle.mr_start.proofs.Common.{◌≡◌, ◌≢◌, ℕ, ◌<◌, ◌+◌, ◌^◌, refl, subst, sym, ap, ◌∙◌, arith, List, [], ◌∷◌, ◌++◌, length, Option, Some, None, Bool, true, false, slice_get_within, ◌&&◌, slice_get, if◌then◌else◌, nat_lt, and_parts, Program, Pointer, Status, Enabled, Done, Undefined, on, run, start_tally, IsSoundTables, over, creation_fault, fault, picks_fault, Goes, Notes, start_notes, Shared, answer, memory_part, tables_of, with_tables, AreHeld, Slot, no_faults, picks_length, MemoryFacts, Leaves, Left, leaves_then, memory_after, reading_after, After, after_then, FitsStack, IsLook, Frame, Look, Stack, DueDo, frame_slots, slots_with, Own, new_thread, reads, with_stack, item_there}
 use Rattle.std.proofs.lemmas.List.{length-append}
-use Rattle.std.proofs.lemmas.Option.{slice_get_within}
-use Rattle.std.specs.Prelude.{◌&&◌, slice_get, if◌then◌else◌, nat_lt}
-use Rattle.std.proofs.lemmas.Bool.{and_parts}
 use Rattle.mr_base.specs.Stops.{plainly}
 use Rattle.mr_ast.specs.declared.program.Function.{Function}
 use Rattle.mr_ast.specs.declared.program.Intrinsic.{Intrinsic}
-use Rattle.mr_ast.specs.declared.program.Intrinsic.TheVariants as intrinsic
-use Rattle.mr_ast.specs.declared.program.Program.{Program}
 use Rattle.mr_ast.specs.declared.types.IntType.TheVariants.{U32}
 use Rattle.mr_ast.specs.declared.types.Ty.{Ty}
-use Rattle.mr_ast.specs.declared.types.Ty.TheVariants as ty
 use Rattle.mr_base.proofs.Comparisons.{lt_from, lt_test}
-use Rattle.mr_base.specs.declared.byte.Pointer.{Pointer}
 use Rattle.mr_base.specs.declared.reason.Reason.TheVariants.{SignatureMismatch}
 use Rattle.mr_base.specs.declared.thread.Event.TheVariants.{Spawn}
-use Rattle.mr_base.specs.declared.thread.Status.{Status}
-use Rattle.mr_base.specs.declared.thread.Status.TheVariants.{Enabled}
 use Rattle.mr_frame.specs.MemMemory.{ranges_of}
 use Rattle.mr_value.specs.declared.val.Val.{Val, out-Val}
-use Rattle.mr_value.specs.declared.val.Val.TheVariants as val
 use Rattle.mr_value.specs.Shape.{has_shape}
 use Rattle.mr_value.proofs.ShapeLaws.{has_int, has_raw, shape_fn_ptr}
 use Rattle.mr_frame.specs.TypingIntrinsics.{fits_intrinsic, gives}
 use Rattle.mr_frame.specs.TypingOperands.{is_fn_ptr, is_raw}
 use Rattle.mr_frame.specs.TypingWalk.{WellFormed}
 use Rattle.mr_frame.proofs.TypingKindLaws.{fn_ptr_is, raw_is}
-use Rattle.mr_base.specs.Script.{Done, Undefined, on, run}
-use Rattle.mr_frame.specs.EvalTally.{start_tally}
 use Rattle.mr_frame.specs.EvalShapes.{HaveShapes}
-use Rattle.mr_intr.specs.SyncSound.{IsSoundTables}
-use Rattle.mr_intr.specs.SyncTables.{over, spawned}
+use Rattle.mr_intr.specs.SyncTables.{spawned}
 use Rattle.mr_intr.proofs.SyncSoundTables.{stay_sound}
-use Rattle.mr_frame.specs.PlanLegal.{creation_fault, fault, picks_fault}
-use Rattle.mr_frame.specs.PlanMachine.{CreatesThread, Goes}
-use Rattle.mr_frame.specs.PlanNotes.{Notes, start_notes}
-use Rattle.mr_frame.specs.PlanQueries.{Shared, answer, memory_part, note, tables_of, with_tables, woke}
-use Rattle.mr_frame.specs.PlanStorage.{AreHeld, Slot}
-use Rattle.mr_frame.proofs.PlanLegalLaws.{no_faults, picks_length}
-use Rattle.mr_frame.proofs.PlanMemoryFacts.{MemoryFacts}
-use Rattle.mr_frame.proofs.PlanMemoryParts.{Leaves, Left, leaves_then, memory_after, reading_after}
-use Rattle.mr_frame.proofs.PlanOutcomes.{After, after_then}
+use Rattle.mr_frame.specs.PlanMachine.{CreatesThread}
+use Rattle.mr_frame.specs.PlanQueries.{note, woke}
 use Rattle.mr_frame.proofs.PlanRooms.{behind, in_front}
 use Rattle.mr_frame.specs.Calls.{behind_first, callee_of, enter, kept_types, same_types, storage_asks}
-use Rattle.mr_frame.specs.Fits.{FitsStack, IsLook}
-use Rattle.mr_frame.specs.Frames.{Frame, Look, Stack}
-use Rattle.mr_frame.specs.Operations.{DueDo, Operands, OperandsFit, finish, operands}
-use Rattle.mr_frame.specs.Storage.{frame_slots, slots_with}
+use Rattle.mr_frame.specs.Operations.{Operands, OperandsFit, finish, operands}
 use Rattle.mr_frame.proofs.CallSafe.{IsFirst, enter_safe, equal_types, kept_there, position_below}
 use Rattle.mr_frame.proofs.DoSafe.{DoStands, ValueFits, finish_safe, operands_safe}
 use Rattle.mr_frame.proofs.Frames.{function_keeps}
@@ -57,11 +34,13 @@ use Rattle.mr_intr.specs.Operations.{Operation, operation, pointer}
 use Rattle.mr_intr.proofs.Leaving.{AfterOp, OpLeaves, OpPlan, same_left}
 use Rattle.mr_intr.proofs.Operates.{operation_safe}
 use Rattle.mr_intr.proofs.OperationSafe.{found_then, result_is}
-use Rattle.mr_start.specs.Steps.{Own, do_step, finished, finishing, last_payload, new_thread, operated, reads, spawn, spawn_function, spawn_number, spawn_types, start, thread_types, with_stack}
+use Rattle.mr_start.specs.Steps.{do_step, finished, finishing, last_payload, operated, spawn, spawn_function, spawn_number, spawn_types, start, thread_types}
+use Rattle.mr_frame.specs.EvalOperators.{pointer_in}
+use Rattle.mr_ast.specs.declared.program.Intrinsic.TheVariants as intrinsic
+use Rattle.mr_ast.specs.declared.types.Ty.TheVariants as ty
+use Rattle.mr_value.specs.declared.val.Val.TheVariants as val
 use Rattle.mr_start.proofs.FrameTurn.{PlanTurns}
 use Rattle.mr_start.proofs.Turns.{AfterTurn, StartedFits, fits_over, many_started, started_slots}
-use Rattle.mr_base.proofs.Lists.{item_there}
-use Rattle.mr_frame.specs.EvalOperators.{pointer_in}
 use Rattle.mr_sched.specs.declared.rule.ScheduleRule.TheVariants as rule
 
 value_fits : (t : Option Ty) (v : Option Val) → FitsPlace t v → ValueFits t v

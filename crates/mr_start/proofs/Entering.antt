@@ -1,41 +1,25 @@
 -- What the main function's frame is at the start, behind the allocations of functions and globals.
-use Rattle.std.proofs.Common.{◌≡◌, ℕ, ◌+◌, ◌≤◌, refl, sym, ap, ◌∙◌, subst, arith, List, [], ◌∷◌, ◌++◌, length, map, drop, take, replicate, length-append, length-take-le, length-drop, append_assoc}
-use Rattle.std.proofs.lemmas.List.{drop-append-le, length-map, take-append-le}
+use Rattle.mr_start.proofs.Common.{◌≡◌, ℕ, ◌+◌, ◌≤◌, refl, sym, ap, ◌∙◌, subst, arith, List, [], ◌∷◌, ◌++◌, length, map, drop, take, replicate, length-append, length-take-le, length-drop, append_assoc, length-map, Some, None, Option, slice_get, Local, Program, Pointer, Status, Enabled, Allocation, Memory, Ranges, allocated, range_fault, ranges_of, Address, Outcome, Went, on, WellFormed, pointer_to, Fault, address_fault, else_fault, fault, picks_fault, picks_length, Frame, Stack, before_frame, fault_over, first_placed, own_id, pieces_fault, return_pointer, new_thread, Piece, ask_of, function_piece, global_piece, look_of, pieces, placed, return_piece, start_fault, start_frame, start_locals, start_placed}
+use Rattle.std.proofs.lemmas.List.{drop-append-le, take-append-le}
 use Rattle.std.proofs.Math.Seq.{drop-append_seam, take-append_seam}
-use Rattle.std.specs.Prelude.{Some, None, Option, slice_get}
 use Rattle.std.specs.Option.{option_map}
-use Rattle.std.specs.FinMap as fin
-use Rattle.mr_ast.specs.declared.program.Local.{Local}
-use Rattle.mr_ast.specs.declared.program.Program.{Program}
-use Rattle.mr_base.specs.declared.byte.Kind.TheVariants.{Stack as OnStack}
-use Rattle.mr_base.specs.declared.byte.Pointer.{Pointer}
-use Rattle.mr_base.specs.declared.thread.Status.{Status}
-use Rattle.mr_base.specs.declared.thread.Status.TheVariants.{Enabled}
 use Rattle.mr_layout.specs.Sizes.{align_of, size_of}
 use Rattle.mr_mem.proofs.RangeLaws.{ranges-empty}
-use Rattle.mr_mem.specs.Memory.{Allocation, Memory, Ranges, allocated, range_fault, ranges_of}
-use Rattle.mr_sched.specs.declared.schedule.Ask.TheVariants.{Address}
-use Rattle.mr_base.specs.Script.{Outcome, Went, on}
 use Rattle.mr_base.proofs.ScriptSwaps.{same_state, same_value}
-use Rattle.mr_typing.specs.Walk.{WellFormed}
-use Rattle.mr_eval.specs.MemoryQueries.{pointer_to}
 use Rattle.mr_eval.specs.Tally.{start_tally}
 use Rattle.mr_eval.specs.World.{World}
-use Rattle.mr_frame.specs.PlanLegal.{Fault, address_fault, else_fault, fault, picks_fault}
-use Rattle.mr_frame.proofs.PlanLegalLaws.{picks_length}
-use Rattle.mr_frame.proofs.PlanRooms.{behind as at_last}
-use Rattle.mr_frame.specs.declared.look.Look.{Look as KeptLook}
 use Rattle.mr_frame.specs.Beginning.{CanAllocate, CanBegin, IsBottom, allocated_each, stored_each}
 use Rattle.mr_frame.specs.Calls.{behind_first, first_frame, kept_types, local_type, all_there, with_each}
 use Rattle.mr_frame.specs.Effects.{entered}
-use Rattle.mr_frame.specs.Frames.{Frame, Stack}
 use Rattle.mr_frame.specs.Kept.{IsReady}
 use Rattle.mr_frame.specs.Standing.{IsUncounted}
 use Rattle.mr_frame.proofs.BeginLaws.{entered_is, none_stored}
 use Rattle.mr_frame.proofs.Frames.{function_keeps}
-use Rattle.mr_start.specs.Begin.{before_frame, fault_over, first_placed, own_id, pieces_fault, return_pointer}
-use Rattle.mr_start.specs.Steps.{new_thread}
-use Rattle.mr_start.specs.Start.{Piece, Placed, ask_of, function_piece, global_piece, look_of, pieces, placed, return_piece, start_fault, start_frame, start_locals, start_placed}
+use Rattle.mr_start.specs.Start.{Placed}
+use Rattle.std.specs.FinMap as fin
+use Rattle.mr_base.specs.declared.byte.Kind.TheVariants.{Stack as OnStack}
+use Rattle.mr_frame.proofs.PlanRooms.{behind as at_last}
+use Rattle.mr_frame.specs.declared.look.Look.{Look as KeptLook}
 use Rattle.mr_start.proofs.PlacedLaws.{InTwo, in_two}
 use Rattle.mr_start.proofs.StartFacts.{HasMain, has_main, no_argument, pieces_length, pointers_length, return_is}
 use Rattle.mr_start.proofs.StartStores.{AreCounted, none_counted, placed_counted}

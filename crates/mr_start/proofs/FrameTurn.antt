@@ -1,43 +1,24 @@
 -- The turn of a thread whose next step is no intrinsic.
-use Rattle.std.proofs.Common.{◌≡◌, ◌≢◌, ℕ, ◌<◌, ◌+◌, refl, subst, sym, ap, ◌∙◌, arith, List, [], length, Option, Some, None, Bool, true, false, map, ◌==◌}
-use Rattle.std.proofs.lemmas.List.{length-map}
-use Rattle.std.proofs.lemmas.Option.{slice_get-map, slice_get_within}
-use Rattle.std.proofs.Math.ListN.{length-set}
-use Rattle.std.specs.Prelude.{slice_get, slice_set, if◌then◌else◌, ◌++◌}
+use Rattle.mr_start.proofs.Common.{◌≡◌, ◌≢◌, ℕ, ◌<◌, ◌+◌, refl, subst, sym, ap, ◌∙◌, arith, List, [], length, Option, Some, None, Bool, true, false, map, ◌==◌, length-map, slice_get_within, length-set, slice_get, slice_set, if◌then◌else◌, ◌++◌, Program, Status, Enabled, Ended, OnJoin, OnLock, Done, Undefined, Went, Broken, on, run, start_tally, IsSoundTables, over, creation_fault, needs_fault, picks_fault, Goes, Plan, Notes, start_notes, Shared, StepScript, answer, memory_part, tables_of, with_tables, AreHeld, Slot, no_faults, picks_length, MemoryFacts, Leaves, Left, leaves_then, memory_after, reading_after, After, after_then, FitsStack, IsLook, Look, Stack, next_do, frame_slots, set_here, Own, Turn, reads, with_stack, set_there}
+use Rattle.std.proofs.lemmas.Option.{slice_get-map}
 use Rattle.std.specs.Option.{option_map}
-use Rattle.mr_ast.specs.declared.program.Program.{Program}
-use Rattle.mr_base.specs.declared.thread.Status.{Status}
-use Rattle.mr_base.specs.declared.thread.Status.TheVariants.{Enabled, Ended, OnJoin, OnLock}
 use Rattle.mr_frame.specs.TypingWalk.{WellFormed}
-use Rattle.mr_base.specs.Script.{Done, Undefined, IllFormed, Ask, Went, Broken, on, run}
+use Rattle.mr_base.specs.Script.{IllFormed, Ask}
 use Rattle.mr_frame.specs.EvalMemoryQueries.{MemoryScript}
 use Rattle.mr_frame.specs.EvalReads.{ReadScript}
 use Rattle.mr_frame.specs.EvalSound.{IsSafe}
-use Rattle.mr_frame.specs.EvalTally.{start_tally}
-use Rattle.mr_intr.specs.SyncSound.{IsSoundTables}
-use Rattle.mr_intr.specs.SyncTables.{ended, over, wake}
+use Rattle.mr_intr.specs.SyncTables.{ended, wake}
 use Rattle.mr_intr.proofs.SyncSoundTables.{stay_sound}
-use Rattle.mr_frame.specs.PlanLegal.{creation_fault, needs_fault, picks_fault}
-use Rattle.mr_frame.specs.PlanMachine.{Goes, Plan}
-use Rattle.mr_frame.specs.PlanNotes.{Notes, start_notes}
-use Rattle.mr_frame.specs.PlanQueries.{Finish, Shared, StepScript, answer, ending, memory_part, tables_of, with_tables}
-use Rattle.mr_frame.specs.PlanStorage.{AreHeld, Slot}
-use Rattle.mr_frame.proofs.PlanLegalLaws.{no_faults, picks_length}
-use Rattle.mr_frame.proofs.PlanMemoryFacts.{MemoryFacts}
-use Rattle.mr_frame.proofs.PlanMemoryParts.{Leaves, Left, leaves_then, memory_after, reading_after}
-use Rattle.mr_frame.proofs.PlanOutcomes.{After, after_then}
+use Rattle.mr_frame.specs.PlanQueries.{Finish, ending}
 use Rattle.mr_frame.specs.MemMemory.{ranges_of}
-use Rattle.mr_frame.specs.Fits.{FitsOnward, FitsStack, IsLook, IsSafePlan}
-use Rattle.mr_frame.specs.Frames.{Aborts, EndsThread, Exits, GoesOn, Look, Onward, Stack}
-use Rattle.mr_frame.specs.Operations.{next_do}
+use Rattle.mr_frame.specs.Fits.{FitsOnward, IsSafePlan}
+use Rattle.mr_frame.specs.Frames.{Aborts, EndsThread, Exits, GoesOn, Onward}
 use Rattle.mr_frame.specs.Steps.{frame_plan}
-use Rattle.mr_frame.specs.Storage.{frame_slots, onward_slots}
+use Rattle.mr_frame.specs.Storage.{onward_slots}
 use Rattle.mr_frame.proofs.FrameSafe.{frame_safe}
-use Rattle.mr_frame.proofs.PlanPositions.{set_here}
 use Rattle.mr_frame.proofs.StorageSteps.{KeepsSlots, Leads, frame_keeps}
-use Rattle.mr_start.specs.Steps.{Own, Turn, frame_step, in_step, onward, reads, with_stack}
+use Rattle.mr_start.specs.Steps.{frame_step, in_step, onward}
 use Rattle.mr_start.proofs.Turns.{AfterTurn, TurnLeaves, fits_over, same_tables}
-use Rattle.mr_base.proofs.Lists.{set_there}
 
 -- whatever picks an entry brings that breaks no rule, the turn of this plan leaves what the next state keeps
 abbrev pub PlanTurns : Program → Shared → ℕ → ℕ → List Slot → Plan (StepScript Turn) → Shared × Notes → Type 0

@@ -1,5 +1,6 @@
 pub mod BareKept
 pub mod Begun
+mod Common
 pub mod DoTurn
 pub mod Entering
 pub mod FrameTurn

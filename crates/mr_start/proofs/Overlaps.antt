@@ -1,18 +1,12 @@
 -- The least identity whose range is overlapped, where the ranges of a thread's picks join others.
-use Rattle.std.proofs.Common.{◌≡◌, ℕ, ◌+◌, ◌<◌, ◌≤◌, refl, sym, ap, ◌∙◌, subst, arith, List, [], ◌∷◌, Option, Bool, true, false, cond}
-use Rattle.std.specs.Prelude.{Some, None, T, ◌&&◌}
+use Rattle.mr_start.proofs.Common.{◌≡◌, ℕ, ◌+◌, ◌<◌, ◌≤◌, refl, sym, ap, ◌∙◌, subst, arith, List, [], ◌∷◌, Option, Bool, true, false, cond, Some, None, T, ◌&&◌, AllocId, Ranges, first_overlapped, id_cmp, id_total, Ask, Address, Waiter, least, picked}
 use Rattle.std.specs.FinMap.Entries.{put, by_order, below_all, is_sorted, find, is_sorted-put, find-put}
 use Rattle.std.specs.Ordering.{is_eq, is_lt, nat_cmp, ordering_then, ordering_reverse}
 use Rattle.std.specs.Cmp.{nat_cmp_is, nat_cmp_total, tied_itself}
 use Rattle.std.specs.declared.cmp.Ordering.{Ordering}
 use Rattle.std.specs.declared.cmp.Ordering.TheVariants.{Less, Equal, Greater}
 use Rattle.mr_base.specs.Pairs.{is_meeting}
-use Rattle.mr_base.specs.declared.byte.AllocId.{AllocId}
-use Rattle.mr_mem.specs.Memory.{Range, Ranges, first_overlapped, id_cmp}
-use Rattle.mr_mem.proofs.Identities.{id_total}
-use Rattle.mr_sched.specs.declared.schedule.Ask.{Ask}
-use Rattle.mr_sched.specs.declared.schedule.Ask.TheVariants.{Address, Waiter}
-use Rattle.mr_start.specs.Judging.{least, picked}
+use Rattle.mr_mem.specs.Memory.{Range}
 
 -- these ranges join others, each in its place
 abbrev pub with_ranges : Ranges → Ranges → Ranges

@@ -1,20 +1,15 @@
 -- How an entry's picks are judged one by one.
-use Rattle.std.proofs.Common.{◌≡◌, ℕ, suc, ◌+◌, ◌<◌, ◌≤◌, refl, sym, ap, ◌∙◌, subst, arith, List, [], ◌∷◌, ◌++◌, length, Option, Bool, true, false, cond, map, take, drop, get_or, drop-cons, take-suc, drop_of_length-le, length-take-le}
-use Rattle.std.specs.Prelude.{Some, None, T, ◌&&◌, slice_get}
-use Rattle.std.specs.FinMap as fin
+use Rattle.mr_start.proofs.Common.{◌≡◌, ℕ, suc, ◌+◌, ◌<◌, ◌≤◌, refl, sym, ap, ◌∙◌, subst, arith, List, [], ◌∷◌, ◌++◌, length, Option, Bool, true, false, cond, map, take, drop, get_or, length-take-le, Some, None, T, ◌&&◌, slice_get, AllocId, Status, Allocation, Memory, Ranges, first_overlapped, id_cmp, is_bad_address, pick_fault, range_fault, ranges_of, reused, with_range, Ask, Address, Waiter, Fault, address_fault, else_fault, fault, picks_fault, address_among, least, picked}
+use Rattle.std.proofs.Common.{drop-cons, take-suc, drop_of_length-le}
 use Rattle.std.specs.FinMap.Entries.{put, below_all, is_sorted, find}
 use Rattle.std.specs.Ordering.{is_eq, is_lt}
 use Rattle.mr_base.specs.Pairs.{is_meeting}
-use Rattle.mr_base.specs.declared.byte.AllocId.{AllocId}
-use Rattle.mr_base.specs.declared.thread.Status.{Status}
-use Rattle.mr_mem.specs.Memory.{Allocation, Memory, Ranges, first_overlapped, id_cmp, is_bad_address, pick_fault, range_fault, range_of, ranges_of, reused, with_range}
+use Rattle.mr_mem.specs.Memory.{range_of}
 use Rattle.mr_mem.specs.declared.fault.PickFault.TheVariants.{BadAddress}
-use Rattle.mr_sched.specs.declared.schedule.Ask.{Ask}
-use Rattle.mr_sched.specs.declared.schedule.Ask.TheVariants.{Address, Waiter}
 use Rattle.mr_sync.specs.Tables.{on_lock}
-use Rattle.mr_frame.specs.PlanLegal.{Fault, address_fault, else_fault, fault, picks_fault}
 use Rattle.mr_frame.specs.Standing.{IsUncounted}
-use Rattle.mr_start.specs.Judging.{address_among, least, picked, waiter_fault}
+use Rattle.mr_start.specs.Judging.{waiter_fault}
+use Rattle.std.specs.FinMap as fin
 use Rattle.mr_start.proofs.Overlaps.{AreUncounted, id_of, overlaps, with_ranges}
 use Rattle.mr_sched.specs.declared.rule.ScheduleRule.TheVariants as rule
 

@@ -1,26 +1,20 @@
 -- Bytes that are stored one piece behind the other, in a range of a live allocation, are stored as one.
-use Rattle.std.proofs.Common.{◌≡◌, ◌≢◌, ℕ, suc, ◌+◌, ◌-◌, ◌<◌, ◌≤◌, refl, sym, ap, ◌∙◌, subst, List, [], ◌∷◌, ◌++◌, length, take, drop, get_or, inl, inr, Option, None, Some, Ok, Bool, true, false, cond, arith, append-nil, append_assoc, length-append, length-take}
-use Rattle.std.proofs.lemmas.Bool.{cases_eq, eq-eqb}
-use Rattle.std.proofs.lemmas.List.{drop_all, take_all}
+use Rattle.mr_start.proofs.Common.{◌≡◌, ◌≢◌, ℕ, suc, ◌+◌, ◌-◌, ◌<◌, ◌≤◌, refl, sym, ap, ◌∙◌, subst, List, [], ◌∷◌, ◌++◌, length, take, drop, get_or, inl, inr, Option, None, Some, Ok, Bool, true, false, cond, arith, append-nil, append_assoc, length-append, cases_eq, take_all, ◌^◌, AllocId, Pointer, Allocation, Memory, id_cmp, is_multiple, written, get_here, id_total, behind, put_one, rewritten, rewritten_size, stored_in, written_is, HasRange, behind_store, global_bytes, item_bytes, item_size}
+use Rattle.std.proofs.Common.{length-take}
+use Rattle.std.proofs.lemmas.Bool.{eq-eqb}
+use Rattle.std.proofs.lemmas.List.{drop_all}
 use Rattle.std.proofs.lemmas.Slice.{drop-append-drop}
 use Rattle.std.proofs.Math.Seq.{drop-cons}
-use Rattle.std.specs.Prelude.{◌%◌, ◌^◌}
-use Rattle.std.specs.FinMap as fin
+use Rattle.std.specs.Prelude.{◌%◌}
 use Rattle.std.specs.Ordering.{eq_by_cmp}
 use Rattle.mr_base.specs.declared.byte.AbstractByte.{AbstractByte}
-use Rattle.mr_base.specs.declared.byte.AllocId.{AllocId}
-use Rattle.mr_base.specs.declared.byte.Pointer.{Pointer}
 use Rattle.mr_ast.specs.declared.program.Item_.{Item_}
-use Rattle.mr_mem.specs.Memory.{Allocation, Memory, checked, id_cmp, is_multiple, written}
-use Rattle.mr_mem.proofs.Identities.{get_here, id_exact, id_total}
+use Rattle.mr_mem.specs.Memory.{checked}
+use Rattle.mr_mem.proofs.Identities.{id_exact}
 use Rattle.mr_runs.specs.Ranges.{with_range_replaced}
 use Rattle.mr_runs.proofs.ListLaws.{take_in_append}
-use Rattle.mr_eval.specs.Moves.{behind}
 use Rattle.mr_frame.proofs.PlanRangeChecks.{Gave, empty, filled, aligned_passes, gave, ranged_within}
-use Rattle.mr_frame.proofs.PlanStoreLaws.{put_one, rewritten, rewritten_size, stored_in, written_is}
-use Rattle.mr_start.specs.Pieces.{HasRange}
-use Rattle.mr_start.specs.Start.{behind_store, global_bytes, item_bytes}
-use Rattle.mr_typing.specs.Broken.{item_size}
+use Rattle.std.specs.FinMap as fin
 use Rattle.mr_start.proofs.StartStores.{length_item}
 
 -- ---- lists

@@ -1,17 +1,8 @@
 -- How the start is made, piece by piece, in two parts.
-use Rattle.std.proofs.Common.{◌≡◌, ℕ, zero, suc, ◌+◌, ◌<◌, ◌≤◌, refl, sym, ap, ◌∙◌, subst, arith, List, [], ◌∷◌, ◌++◌, length, map, drop, take, get_or, append_assoc}
-use Rattle.std.specs.Prelude.{None}
-use Rattle.std.specs.FinMap as fin
-use Rattle.mr_base.specs.declared.byte.Pointer.{Pointer}
-use Rattle.mr_base.specs.declared.thread.Status.TheVariants.{Enabled}
-use Rattle.mr_mem.specs.Memory.{Memory, allocated, pick_fault, range_fault, ranges_of, with_range}
+use Rattle.mr_start.proofs.Common.{◌≡◌, ℕ, zero, suc, ◌+◌, ◌<◌, ◌≤◌, refl, sym, ap, ◌∙◌, subst, arith, List, [], ◌∷◌, ◌++◌, length, map, drop, take, get_or, append_assoc, None, Pointer, Enabled, Memory, allocated, pick_fault, range_fault, ranges_of, with_range, pointer_to, address_fault, else_fault, picks_fault, no_faults, fault_over, own_id, piece_of, pieces_fault, Piece, ask_of, placed}
 use Rattle.mr_mem.proofs.RangeLaws.{ranges-allocated, ranges-empty}
-use Rattle.mr_eval.specs.MemoryQueries.{pointer_to}
-use Rattle.mr_frame.specs.PlanLegal.{address_fault, else_fault, picks_fault}
-use Rattle.mr_frame.proofs.PlanLegalLaws.{no_faults}
+use Rattle.std.specs.FinMap as fin
 use Rattle.mr_start.specs.declared.pieces.Piece.{Piece as Made}
-use Rattle.mr_start.specs.Begin.{fault_over, own_id, piece_of, pieces_fault}
-use Rattle.mr_start.specs.Start.{Piece, ask_of, placed}
 use Rattle.mr_start.proofs.PickLaws.{left_at}
 use Rattle.mr_start.proofs.StartStores.{AreCounted, counted_allocated, lawful_address}
 

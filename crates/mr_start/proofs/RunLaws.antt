@@ -1,16 +1,9 @@
 -- What runs of a program keep, and what it means that no rule is broken.
-use Rattle.std.proofs.Common.{◌≡◌, ℕ, ◌+◌, refl, sym, ◌∙◌, arith, List, [], ◌∷◌, length, length-append}
-use Rattle.std.specs.Prelude.{Some, None, Option}
+use Rattle.mr_start.proofs.Common.{◌≡◌, ℕ, ◌+◌, refl, sym, ◌∙◌, arith, List, [], ◌∷◌, length, length-append, Some, None, Option, Program, Fault, Bare, Completed, IllFormedStep, Language, State, Stops, bare, Look, Own, thread_step, look_of, start_config, start_fault}
 use Rattle.mr_sched.specs.declared.schedule.Entry.{Entry}
 use Rattle.mr_sched.specs.declared.schedule.Schedule.{Schedule}
-use Rattle.mr_ast.specs.declared.program.Program.{Program}
-use Rattle.mr_frame.specs.PlanLegal.{Fault}
-use Rattle.mr_frame.specs.PlanMachine.{Bare, Completed, IllFormedStep, Language, State, Stops, bare}
 use Rattle.mr_frame.specs.PlanRuns.{AreLegal, Config, after, after_bare, feet, foot_from, foot_of_bare, machine_step, stepped_from}
-use Rattle.mr_frame.specs.Frames.{Look}
-use Rattle.mr_start.specs.Steps.{Own, thread_step}
 use Rattle.mr_start.specs.Runs.{Legal, PlacedFault, at_line, entries_fault, program_fault, program_step, run_of, schedule_fault, steps_of}
-use Rattle.mr_start.specs.Start.{look_of, start_config, start_fault}
 
 -- ---- footprints
 

@@ -1,17 +1,8 @@
 -- No bare step of a legal run is ill-formed, and each state of it keeps what states keep.
-use Rattle.std.proofs.Common.{◌≡◌, ℕ, refl, subst, sym, ap, ◌∙◌, List, [], ◌∷◌, Option, Some, None, Bool, true, false, not}
-use Rattle.std.proofs.lemmas.Option.{same_Some}
-use Rattle.std.specs.Prelude.{if◌then◌else◌}
-use Rattle.mr_ast.specs.declared.program.Program.{Program}
+use Rattle.mr_start.proofs.Common.{◌≡◌, ℕ, refl, subst, sym, ap, ◌∙◌, List, [], ◌∷◌, Option, Some, None, Bool, true, false, not, same_Some, if◌then◌else◌, Program, Fault, fault, state_fault, Bare, Completed, IllFormedStep, Language, State, Stops, bare, IsLook, Look, IsSoundConfig, SoundState, Own, thread_step}
 use Rattle.mr_sched.specs.declared.schedule.Entry.{Entry}
 use Rattle.mr_frame.specs.TypingWalk.{WellFormed}
-use Rattle.mr_frame.specs.PlanLegal.{Fault, fault, state_fault}
-use Rattle.mr_frame.specs.PlanMachine.{Bare, Completed, IllFormedStep, Language, State, Stops, bare}
 use Rattle.mr_frame.specs.PlanRuns.{AreLegal, Config, NeverIllFormed, after_bare, entry_fault, fault_in, has_rule, is_ill_formed, is_running, machine_step, stepped_from}
-use Rattle.mr_frame.specs.Fits.{IsLook}
-use Rattle.mr_frame.specs.Frames.{Look}
-use Rattle.mr_start.specs.SoundState.{IsSoundConfig, SoundState}
-use Rattle.mr_start.specs.Steps.{Own, thread_step}
 use Rattle.mr_start.proofs.BareKept.{SoundBare, bare_sound}
 use Rattle.mr_sched.specs.declared.rule.ScheduleRule.TheVariants as rule
 

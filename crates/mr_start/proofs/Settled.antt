@@ -1,28 +1,13 @@
 -- The state behind a turn keeps what each state keeps.
-use Rattle.std.proofs.Common.{◌≡◌, ◌≢◌, ℕ, zero, suc, ◌+◌, ◌<◌, refl, sym, ap, ◌∙◌, subst, arith, List, [], ◌++◌, length, inl, inr, Option, Some, None}
-use Rattle.std.proofs.lemmas.Bool.{cases_eq}
+use Rattle.mr_start.proofs.Common.{◌≡◌, ◌≢◌, ℕ, zero, suc, ◌+◌, ◌<◌, refl, sym, ap, ◌∙◌, subst, arith, List, [], ◌++◌, length, inl, inr, Option, Some, None, cases_eq, same_Some, slice_get_within, length-set, slice_get, slice_set, Program, AllocId, Status, Enabled, over, State, Thread, started_threads, thread_of, Notes, Shared, set_here, FitsStatus, SoundState, Own, item_there, set_there}
 use Rattle.std.proofs.lemmas.List.{length-append}
-use Rattle.std.proofs.lemmas.Option.{same_Some, slice_get_within}
-use Rattle.std.proofs.Math.ListN.{length-set}
-use Rattle.std.specs.Prelude.{slice_get, slice_set}
-use Rattle.std.specs.FinMap as fin
-use Rattle.mr_ast.specs.declared.program.Program.{Program}
-use Rattle.mr_base.specs.declared.byte.AllocId.{AllocId}
-use Rattle.mr_base.specs.declared.thread.Status.{Status}
-use Rattle.mr_base.specs.declared.thread.Status.TheVariants.{Enabled}
 use Rattle.mr_frame.specs.MemMemory.{Allocation}
-use Rattle.mr_intr.specs.SyncTables.{over}
-use Rattle.mr_frame.specs.PlanMachine.{State, Thread, started_threads, thread_of}
-use Rattle.mr_frame.specs.PlanNotes.{Notes}
-use Rattle.mr_frame.specs.PlanQueries.{Shared}
 use Rattle.mr_frame.proofs.PlanRooms.{append_cases, behind, in_front}
 use Rattle.mr_frame.proofs.PlanStorageRuns.{set_cases}
-use Rattle.mr_frame.proofs.PlanPositions.{set_here}
-use Rattle.mr_start.specs.SoundState.{FitsStatus, IsCounted, SoundState}
-use Rattle.mr_start.specs.Steps.{Own}
+use Rattle.mr_start.specs.SoundState.{IsCounted}
+use Rattle.std.specs.FinMap as fin
 use Rattle.mr_start.proofs.ThreadRooms.{back_in_place, other_slots}
 use Rattle.mr_start.proofs.Turns.{StartedFits, TurnLeaves, fits_over, many_started}
-use Rattle.mr_base.proofs.Lists.{item_there, set_there}
 
 -- which thread stands at a position behind the turn
 pub data Stands (threads : List (Thread Own)) (t : ℕ) (now : Thread Own) (started : Option Own) (u : ℕ) (x : Thread Own) : Type 0 where

@@ -1,42 +1,27 @@
 -- What a legal start makes: as many pointers as pieces, and a frame of the main function.
-use Rattle.std.proofs.Common.{◌≡◌, ◌^◌, lit<, subst, ℕ, suc, ◌+◌, ◌-◌, ◌≤◌, refl, sym, ap, ◌∙◌, arith, List, [], ◌∷◌, ◌++◌, length, map, drop, replicate, length-append, length-drop}
-use Rattle.std.proofs.lemmas.List.{length-map, length-take-le}
-use Rattle.std.proofs.Math.ListN.{length-set, length-replicate}
-use Rattle.std.specs.Prelude.{All, Some, None, Option, Bool, true, false, ◌&&◌, ◌==◌, ◌<◌, is_some, nat_le, slice_get, slice_set}
+use Rattle.mr_start.proofs.Common.{◌≡◌, ◌^◌, subst, ℕ, suc, ◌+◌, ◌-◌, ◌≤◌, refl, sym, ap, ◌∙◌, arith, List, [], ◌∷◌, ◌++◌, length, map, drop, replicate, length-append, length-drop, length-map, length-set, length-replicate, All, Some, None, Option, Bool, true, false, ◌&&◌, ◌==◌, ◌<◌, slice_get, slice_set, same_Some, and_parts, Pointer, Enabled, Local, Global_, Program, Memory, Ranges, allocated, range_fault, with_range, items_size, WellFormed, HaveRoom, IsPossible, no_faults, set_here, address_fault, picks_fault, Piece, ask_of, function_piece, global_piece, look_of, pieces, placed, return_piece, start_fault, start_frame, start_locals, start_placed, item_there, all_at}
+use Rattle.std.proofs.Common.{lit<}
+use Rattle.std.proofs.lemmas.List.{length-take-le}
+use Rattle.std.specs.Prelude.{is_some, nat_le}
 use Rattle.std.specs.List.{list_all}
 use Rattle.std.specs.Option.{option_and_then}
 use Rattle.std.proofs.lemmas.Bool.Decides.{nat_tests}
-use Rattle.std.proofs.lemmas.Option.{same_Some}
 use Rattle.std.proofs.lemmas.List.Elements.{All-append, All-cons, All-head, All-nil, All-tail}
-use Rattle.std.specs.FinMap as fin
-use Rattle.std.proofs.lemmas.Bool.{and_parts}
-use Rattle.mr_base.specs.declared.byte.Pointer.{Pointer}
-use Rattle.mr_base.specs.declared.thread.Status.TheVariants.{Enabled}
 use Rattle.mr_ast.specs.Shaped.{Shaped, ShapedFunction}
 use Rattle.mr_ast.specs.declared.program.Function.{Function}
-use Rattle.mr_ast.specs.declared.program.Local.{Local}
 use Rattle.mr_ast.specs.declared.program.LocalName.{LocalName}
-use Rattle.mr_ast.specs.declared.program.Global_.{Global_}
-use Rattle.mr_ast.specs.declared.program.Program.{Program}
 use Rattle.mr_layout.specs.Rules.{is_align}
 use Rattle.mr_layout.specs.TypeOk.{TypeOk}
 use Rattle.mr_layout.proofs.Bounds.{type_ok_small}
-use Rattle.mr_mem.specs.Memory.{Memory, Ranges, allocated, range_fault, with_range}
-use Rattle.mr_typing.specs.Broken.{items_size}
 use Rattle.mr_typing.specs.Unbroken.{UnbrokenFunction, UnbrokenGlobal}
-use Rattle.mr_typing.specs.Walk.{WellFormed}
 use Rattle.mr_typing.proofs.UnbrokenLaws.{well_formed_keeps}
-use Rattle.mr_start.specs.Begin.{HaveRoom, IsPossible}
 use Rattle.mr_frame.specs.Fits.{FitsFrame}
 use Rattle.mr_frame.specs.Sites.{has_storage}
-use Rattle.mr_frame.proofs.PlanLegalLaws.{no_faults}
-use Rattle.mr_frame.proofs.PlanPositions.{set_here}
-use Rattle.mr_frame.specs.PlanLegal.{address_fault, picks_fault}
-use Rattle.mr_start.proofs.Overlaps.{id_of}
-use Rattle.mr_start.specs.Start.{Piece, ask_of, function_piece, global_piece, local_piece, look_of, pieces, placed, return_piece, start_fault, start_frame, start_locals, start_placed}
+use Rattle.mr_start.specs.Start.{local_piece}
 use Rattle.mr_frame.proofs.AlignPowers.{align_power, type_ok_power}
 use Rattle.mr_base.proofs.Comparisons.{le_from}
-use Rattle.mr_base.proofs.Lists.{item_there, all_at}
+use Rattle.std.specs.FinMap as fin
+use Rattle.mr_start.proofs.Overlaps.{id_of}
 
 -- picks that break no rule give a pointer for each piece
 pub placed_length : (m : Memory) (rs : Ranges) (count : ℕ) (ps : List Piece) (picks : List ℕ) → picks_fault (Enabled ∷ []) rs 0 count (map ask_of ps) picks ≡ None → length (placed m count ps picks).pointers ≡ length ps

@@ -1,28 +1,13 @@
 -- The state behind a legal start line keeps the machine's limits.
-use Rattle.std.proofs.Common.{◌≡◌, ℕ, ◌+◌, ◌≤◌, ◌^◌, refl, sym, ap, ◌∙◌, subst, inl, inr, List, [], ◌∷◌, length, map, arith, Bool, true, false, not, Option, None, Some, Result, Ok, Err}
-use Rattle.std.proofs.lemmas.Bool.{ltb-false, or_parts}
-use Rattle.std.proofs.lemmas.Option.{same_Some}
-use Rattle.std.specs.Prelude.{◌==◌, ◌||◌, nat_lt}
-use Rattle.std.specs.FinMap as fin
+use Rattle.mr_start.proofs.Common.{◌≡◌, ℕ, ◌+◌, ◌≤◌, ◌^◌, refl, sym, ap, ◌∙◌, subst, inl, inr, List, [], ◌∷◌, length, map, arith, Bool, true, false, not, Option, None, Some, Ok, Err, ltb-false, or_parts, same_Some, ◌==◌, ◌||◌, nat_lt, AllocId, Pointer, Enabled, Global_, Program, Allocation, Memory, Ranges, allocated, fresh, id_cmp, is_multiple, range_fault, with_range, written, get_here, get_there, address_fault, picks_fault, State, no_faults, put_one, rewritten, rewritten_size, stored_in, written_is, Own, Piece, ask_of, behind_store, filled, global_bytes, look_of, pieces, placed, start_config, start_fault, start_memory, start_placed}
+use Rattle.std.proofs.Common.{Result}
 use Rattle.mr_base.specs.declared.byte.AbstractByte.{AbstractByte}
-use Rattle.mr_base.specs.declared.byte.AllocId.{AllocId}
-use Rattle.mr_base.specs.declared.byte.Pointer.{Pointer}
 use Rattle.mr_base.specs.declared.reason.Reason.{Reason}
-use Rattle.mr_base.specs.declared.thread.Status.TheVariants.{Enabled}
-use Rattle.mr_ast.specs.declared.program.Global_.{Global_}
-use Rattle.mr_ast.specs.declared.program.Program.{Program}
-use Rattle.mr_mem.specs.Memory.{Allocation, Memory, Ranges, allocated, fresh, id_cmp, is_multiple, range_fault, with_range, written}
-use Rattle.mr_mem.proofs.Identities.{get_here, get_there}
-use Rattle.mr_frame.specs.PlanLegal.{address_fault, picks_fault}
 use Rattle.mr_frame.specs.PlanLimits.{ArePlaced, AreWithin, IsPlaced, IsWithin}
-use Rattle.mr_frame.specs.PlanMachine.{State}
 use Rattle.mr_frame.proofs.PlanIdentityCases.{id_cases}
-use Rattle.mr_frame.proofs.PlanLegalLaws.{no_faults}
 use Rattle.mr_frame.proofs.PlanMemoryFacts.{fresh_fits}
+use Rattle.std.specs.FinMap as fin
 use Rattle.mr_frame.proofs.PlanRangeChecks.{Gave, aligned_ok, empty, filled as fills, gave, ranged}
-use Rattle.mr_frame.proofs.PlanStoreLaws.{put_one, rewritten, rewritten_size, stored_in, written_is}
-use Rattle.mr_start.specs.Steps.{Own}
-use Rattle.mr_start.specs.Start.{Piece, ask_of, behind_store, filled, global_bytes, look_of, pieces, placed, start_config, start_fault, start_memory, start_placed}
 use Rattle.mr_start.proofs.Overlaps.{id_of}
 use Rattle.mr_start.proofs.StartStores.{lawful_address, low_range}
 

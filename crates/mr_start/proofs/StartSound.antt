@@ -1,31 +1,17 @@
 -- The state behind a legal start line keeps what each state keeps.
-use Rattle.std.proofs.Common.{◌≡◌, ℕ, zero, suc, ◌+◌, refl, sym, ap, ◌∙◌, subst, inl, inr, List, [], ◌∷◌, ◌++◌, length, drop, replicate, arith, append-nil}
-use Rattle.std.proofs.lemmas.Option.{same_Some}
-use Rattle.std.specs.Prelude.{Option, Some, None, slice_get, slice_set}
+use Rattle.mr_start.proofs.Common.{◌≡◌, ℕ, zero, suc, ◌+◌, refl, sym, ap, ◌∙◌, subst, inl, inr, List, [], ◌∷◌, ◌++◌, length, drop, replicate, arith, append-nil, same_Some, Option, Some, None, slice_get, slice_set, Pointer, Status, Enabled, Local, Program, Memory, WellFormed, State, Thread, thread_of, AreHeld, Slot, IsLook, slots_with, FitsStatus, IsSoundConfig, SoundState, thread_slots, Own, new_thread, Piece, look_of, pieces, start_config, start_fault, start_frame, start_locals, start_memory, start_placed}
 use Rattle.mr_base.specs.declared.byte.Kind.TheVariants.{Stack}
-use Rattle.mr_base.specs.declared.byte.Pointer.{Pointer}
-use Rattle.mr_base.specs.declared.thread.Status.{Status}
-use Rattle.mr_base.specs.declared.thread.Status.TheVariants.{Enabled}
-use Rattle.mr_ast.specs.declared.program.Local.{Local}
-use Rattle.mr_ast.specs.declared.program.Program.{Program}
-use Rattle.mr_mem.specs.Memory.{Memory}
 use Rattle.mr_layout.specs.Sizes.{align_of, size_of}
-use Rattle.mr_typing.specs.Walk.{WellFormed}
 use Rattle.mr_sched.specs.declared.schedule.Schedule.{Schedule}
 use Rattle.mr_sync.proofs.SoundTables.{stay_sound}
-use Rattle.mr_frame.specs.PlanMachine.{State, Thread, thread_of}
-use Rattle.mr_frame.specs.PlanStorage.{AreHeld, IsStorage, Slot}
+use Rattle.mr_frame.specs.PlanStorage.{IsStorage}
 use Rattle.mr_frame.proofs.PlanStorageRuns.{set_cases}
-use Rattle.mr_frame.specs.Fits.{IsLook}
-use Rattle.mr_frame.specs.Storage.{slot_of, slots_in, slots_with}
-use Rattle.mr_start.specs.SoundState.{FitsStatus, IsSoundConfig, SoundState, thread_slots}
-use Rattle.mr_start.specs.Steps.{Own, new_thread}
-use Rattle.mr_start.proofs.RunSound.{never_ill_formed}
+use Rattle.mr_frame.specs.Storage.{slot_of, slots_in}
 use Rattle.mr_start.specs.Runs.{IsSoundRun, Legal}
-use Rattle.mr_start.specs.Start.{Piece, look_of, pieces, start_config, start_fault, start_frame, start_locals, start_memory, start_placed}
+use Rattle.mr_base.proofs.Lists.{slice_get-drop}
+use Rattle.mr_start.proofs.RunSound.{never_ill_formed}
 use Rattle.mr_start.proofs.StartFacts.{HasMain, functions_length, globals_length, has_main, return_is, start_fits}
 use Rattle.mr_start.proofs.StartStores.{AllLie, Lies, start_kept}
-use Rattle.mr_base.proofs.Lists.{slice_get-drop}
 
 -- ---- the one local that has storage
 

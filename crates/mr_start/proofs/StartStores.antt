@@ -1,36 +1,20 @@
 -- Behind a legal start line the bytes of each global can be stored.
-use Rattle.std.proofs.Common.{◌≡◌, ℕ, ◌+◌, ◌<◌, ◌≤◌, refl, sym, ap, ◌∙◌, subst, inl, inr, List, [], ◌∷◌, ◌++◌, length, map, take, drop, cond, arith, length-append}
-use Rattle.std.proofs.lemmas.Bool.{cases_eq, ltb-false, or_parts}
-use Rattle.std.proofs.lemmas.List.{length-map}
-use Rattle.std.proofs.lemmas.Option.{same_Some}
-use Rattle.std.proofs.Math.ListN.{length-replicate}
-use Rattle.std.specs.Prelude.{◌^◌, ◌==◌, Option, Some, None, Ok, Bool, true, false, not, ◌||◌, nat_lt, slice_get}
-use Rattle.std.specs.FinMap as fin
+use Rattle.mr_start.proofs.Common.{◌≡◌, ℕ, ◌+◌, ◌<◌, ◌≤◌, refl, sym, ap, ◌∙◌, subst, inl, inr, List, [], ◌∷◌, ◌++◌, length, map, take, drop, cond, arith, length-append, cases_eq, ltb-false, or_parts, length-map, same_Some, length-replicate, ◌^◌, ◌==◌, Option, Some, None, Ok, Bool, true, false, not, ◌||◌, nat_lt, slice_get, AllocId, Pointer, Enabled, Global_, Program, Allocation, Memory, Ranges, allocated, first_overlapped, fresh, id_cmp, is_bad_address, is_multiple, range_fault, reused, with_range, written, get_here, get_there, item_size, items_size, behind, address_fault, picks_fault, Piece, ask_of, behind_store, filled, function_piece, global_bytes, global_piece, item_bytes, look_of, pieces, placed, return_piece, start_fault, start_memory, start_placed, no_faults, put_one, rewritten, rewritten_size, stored_in, written_is}
 use Rattle.mr_base.specs.declared.byte.AbstractByte.TheVariants.{Init, Uninit}
-use Rattle.mr_base.specs.declared.byte.AllocId.{AllocId}
 use Rattle.mr_base.specs.declared.byte.Kind.{Kind}
-use Rattle.mr_base.specs.declared.byte.Pointer.{Pointer}
-use Rattle.mr_base.specs.declared.thread.Status.TheVariants.{Enabled}
-use Rattle.mr_ast.specs.declared.program.Global_.{Global_}
 use Rattle.mr_ast.specs.declared.program.Item_.{Item_}
-use Rattle.mr_ast.specs.declared.program.Item_.TheVariants as item
-use Rattle.mr_ast.specs.declared.program.Program.{Program}
-use Rattle.mr_mem.specs.Memory.{Allocation, Memory, Ranges, allocated, first_overlapped, fresh, held, id_cmp, is_bad_address, is_multiple, range_fault, reused, with_range, written}
+use Rattle.mr_mem.specs.Memory.{held}
 use Rattle.mr_mem.specs.declared.fault.PickFault.{PickFault}
 use Rattle.mr_mem.specs.declared.fault.PickFault.TheVariants.{BadAddress, Reused}
-use Rattle.mr_mem.proofs.Identities.{get_here, get_there}
 use Rattle.mr_value.specs.Numbers.{Bytes}
 use Rattle.mr_value.proofs.EncodeLength.{length-initialised}
-use Rattle.mr_typing.specs.Broken.{item_size, items_size}
-use Rattle.mr_eval.specs.Moves.{behind}
-use Rattle.mr_frame.specs.PlanLegal.{address_fault, picks_fault}
-use Rattle.mr_start.proofs.Overlaps.{id_of}
-use Rattle.mr_start.specs.Start.{CanBeFilled, IsWholeStart, Piece, ask_of, behind_store, filled, function_piece, global_bytes, global_piece, item_bytes, look_of, pieces, placed, pointer_behind, return_piece, start_fault, start_memory, start_placed, target_of}
+use Rattle.mr_start.specs.Start.{CanBeFilled, IsWholeStart, pointer_behind, target_of}
 use Rattle.mr_frame.proofs.PlanHeaders.{Lasting}
 use Rattle.mr_frame.proofs.PlanIdentityCases.{id_cases}
 use Rattle.mr_frame.proofs.PlanRangeChecks.{Within, aligned_passes, ranged, ranged_empty, ranged_within}
-use Rattle.mr_frame.proofs.PlanLegalLaws.{no_faults}
-use Rattle.mr_frame.proofs.PlanStoreLaws.{put_one, rewritten, rewritten_size, stored_in, written_is}
+use Rattle.std.specs.FinMap as fin
+use Rattle.mr_ast.specs.declared.program.Item_.TheVariants as item
+use Rattle.mr_start.proofs.Overlaps.{id_of}
 
 -- all identities are of thread 0, and counted
 abbrev pub AreCounted : Memory → ℕ → Type 0

@@ -1,16 +1,8 @@
 -- The rooms of all threads, and those of one of them in front.
-use Rattle.std.proofs.Common.{◌≡◌, ℕ, zero, suc, refl, sym, ap, ◌∙◌, subst, List, [], ◌∷◌, ◌++◌, Option, Some, None, append-nil, append_assoc}
-use Rattle.std.proofs.lemmas.Option.{same_Some}
-use Rattle.std.specs.Prelude.{slice_get, slice_set}
-use Rattle.mr_ast.specs.declared.program.Program.{Program}
+use Rattle.mr_start.proofs.Common.{◌≡◌, ℕ, zero, suc, refl, sym, ap, ◌∙◌, subst, List, [], ◌∷◌, ◌++◌, Option, Some, None, append-nil, append_assoc, same_Some, slice_get, slice_set, Program, Thread, started_threads, thread_of, AreHeld, Slot, Frame, frame_slots, slots_with, thread_slots, Own}
 use Rattle.mr_frame.specs.MemMemory.{Memory}
-use Rattle.mr_frame.specs.PlanMachine.{Thread, started_threads, thread_of}
-use Rattle.mr_frame.specs.PlanStorage.{AreHeld, Slot}
 use Rattle.mr_frame.proofs.PlanRooms.{change_places}
-use Rattle.mr_frame.specs.Frames.{Frame}
-use Rattle.mr_frame.specs.Storage.{frame_slots, slots_with}
-use Rattle.mr_start.specs.SoundState.{own_slots, thread_slots}
-use Rattle.mr_start.specs.Steps.{Own}
+use Rattle.mr_start.specs.SoundState.{own_slots}
 use Rattle.mr_start.proofs.Turns.{started_slots}
 
 -- those of the threads before one, and behind it

@@ -1,23 +1,7 @@
 -- What one turn of a thread leaves, on the way to what the next state keeps.
-use Rattle.std.proofs.Common.{◌≡◌, ◌≢◌, ℕ, ◌<◌, ◌+◌, refl, subst, sym, ap, ◌∙◌, arith, List, [], length, Option, Some, None}
-use Rattle.std.specs.Prelude.{slice_get}
-use Rattle.mr_ast.specs.declared.program.Program.{Program}
-use Rattle.mr_base.specs.declared.thread.Status.{Status}
-use Rattle.mr_base.specs.declared.thread.Status.TheVariants.{Enabled, Ended, OnJoin, OnLock}
+use Rattle.mr_start.proofs.Common.{◌≡◌, ◌≢◌, ℕ, ◌<◌, ◌+◌, refl, subst, sym, ap, ◌∙◌, arith, List, [], length, Option, Some, None, slice_get, Program, Status, Enabled, Ended, OnJoin, OnLock, IsSoundTables, over, Aborts, Exits, Goes, Notes, Shared, tables_of, AreHeld, Slot, MemoryFacts, Leaves, FitsStack, Stack, frame_slots, FitsStatus, Own, Turn}
 use Rattle.mr_frame.specs.MemMemory.{Memory}
-use Rattle.mr_intr.specs.SyncSound.{IsSoundTables}
-use Rattle.mr_intr.specs.SyncTables.{over}
-use Rattle.mr_frame.specs.PlanMachine.{Aborts, Exits, Flow, Goes}
-use Rattle.mr_frame.specs.PlanNotes.{Notes}
-use Rattle.mr_frame.specs.PlanQueries.{Shared, tables_of}
-use Rattle.mr_frame.specs.PlanStorage.{AreHeld, Slot}
-use Rattle.mr_frame.proofs.PlanMemoryFacts.{MemoryFacts}
-use Rattle.mr_frame.proofs.PlanMemoryParts.{Leaves}
-use Rattle.mr_frame.specs.Fits.{FitsStack}
-use Rattle.mr_frame.specs.Frames.{Stack}
-use Rattle.mr_frame.specs.Storage.{frame_slots}
-use Rattle.mr_start.specs.SoundState.{FitsStatus}
-use Rattle.mr_start.specs.Steps.{Own, Turn}
+use Rattle.mr_frame.specs.PlanMachine.{Flow}
 
 -- how many threads a turn starts
 abbrev pub many_started : Option Own → ℕ

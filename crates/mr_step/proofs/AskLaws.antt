@@ -1,21 +1,14 @@
 -- What the next step of a thread asks for, in a machine that stands.
-use Rattle.std.proofs.Common.{◌≡◌, ℕ, ◌<◌, refl, ap, ◌∙◌, arith, length, Bool, true, false, Some}
-use Rattle.std.specs.Prelude.{slice_get}
-use Rattle.std.proofs.lemmas.Option.{same_Some}
+use Rattle.mr_step.proofs.Common.{◌≡◌, ℕ, ◌<◌, refl, ap, ◌∙◌, arith, length, Bool, true, false, Some, slice_get, same_Some, State, needed, needs, start_notes, look_of, Own, thread_step, planned, Progress, BeginsAct, IsDue, state_of, state_unless}
 use Rattle.mr_base.specs.declared.reason.Verdict.TheVariants.{Running}
-use Rattle.mr_plan.specs.Machine.{State, needed, needs, needs_of}
-use Rattle.mr_plan.specs.Notes.{start_notes}
+use Rattle.mr_plan.specs.Machine.{needs_of}
 use Rattle.mr_plan.specs.Queries.{answer}
 use Rattle.mr_base.specs.Script.{run}
-use Rattle.mr_frame.specs.declared.look.Look.{Look as KeptLook}
-use Rattle.mr_frame.specs.Kept.{look_of}
-use Rattle.mr_exchange.specs.StartSteps.{Own, own_step, thread_step}
+use Rattle.mr_exchange.specs.StartSteps.{own_step}
 use Rattle.mr_turn.specs.Asking.{step_needs}
-use Rattle.mr_turn.specs.Turning.{planned}
-use Rattle.mr_step.specs.declared.progress.Progress.{Progress}
+use Rattle.mr_step.specs.Advance.{CanAsk}
+use Rattle.mr_frame.specs.declared.look.Look.{Look as KeptLook}
 use Rattle.mr_step.specs.declared.progress.Thread.{Thread as KeptThread}
-use Rattle.mr_step.specs.Advance.{BeginsAct, CanAsk, IsDue}
-use Rattle.mr_step.specs.Kept.{state_of, state_unless}
 use Rattle.mr_step.proofs.SoundLaws.{begins_act, own_is, thread_here, thread_there}
 
 -- neither the verdict nor how many steps were completed counts here

@@ -1,23 +1,14 @@
 -- What a completed step leaves.
-use Rattle.std.proofs.Common.{◌≡◌, ℕ, ◌+◌, ◌++◌, sym, ap, ◌∙◌, List, map, length, true, false, Some}
-use Rattle.std.specs.Prelude.{slice_set}
-use Rattle.std.specs.Option.{option_map}
-use Rattle.mr_event.specs.Footprint.{Footprint}
+use Rattle.mr_step.proofs.Common.{◌≡◌, ℕ, ◌+◌, ◌++◌, sym, ap, ◌∙◌, List, map, length, true, false, Some, slice_set, option_map, Footprint, Scene, Completed, State, Thread, started_threads, Notes, after_bare, foot_in, printed_by, Look, Own, thread_step, own_of, shared_in, turn_by, Progress, config_of, numbered, printed_of, standing_thread, state_of, state_unless, LeadsTo, Tells, bare_by, completed, foot_by, verdict_in}
 use Rattle.mr_eval.specs.Tally.{Tally}
-use Rattle.mr_eval.specs.declared.scene.Scene.{Scene}
-use Rattle.mr_plan.specs.Machine.{Completed, State, Thread, settle, started_threads}
-use Rattle.mr_plan.specs.Notes.{Notes, accesses_in, foot_of}
-use Rattle.mr_plan.specs.Runs.{after_bare, foot_in, printed_by}
+use Rattle.mr_plan.specs.Machine.{settle}
+use Rattle.mr_plan.specs.Notes.{accesses_in, foot_of}
 use Rattle.mr_frame.specs.declared.flow.Flow.{Flow}
+use Rattle.mr_turn.specs.declared.deed.Deed.{Deed}
+use Rattle.mr_turn.specs.Turning.{is_end, printed_lines}
+use Rattle.mr_step.specs.Settling.{IsOn}
 use Rattle.mr_frame.specs.declared.flow.Flow.TheVariants as flow
 use Rattle.mr_frame.specs.declared.stack.Stack.{Stack as KeptStack}
-use Rattle.mr_frame.specs.Frames.{Look}
-use Rattle.mr_exchange.specs.StartSteps.{Own, thread_step}
-use Rattle.mr_turn.specs.declared.deed.Deed.{Deed}
-use Rattle.mr_turn.specs.Turning.{is_end, own_of, printed_lines, shared_in, turn_by}
-use Rattle.mr_step.specs.declared.progress.Progress.{Progress}
-use Rattle.mr_step.specs.Kept.{config_of, numbered, printed_of, standing_thread, state_of, state_unless}
-use Rattle.mr_step.specs.Settling.{IsOn, LeadsTo, Tells, bare_by, completed, foot_by, verdict_in}
 use Rattle.mr_step.proofs.Numbered.{numbered_length}
 
 -- the footprint that the notes tell

@@ -1,22 +1,16 @@
 -- What an entry comes to, by the state in which it finds the machine.
-use Rattle.std.proofs.Common.{◌≡◌, ◌+◌, ap, ◌∙◌, sym, refl, List, [], ◌∷◌, length, Bool, true, false, Option, Some, None}
+use Rattle.mr_step.proofs.Common.{◌≡◌, ◌+◌, ap, ◌∙◌, sym, refl, List, [], ◌∷◌, length, Bool, true, false, Option, Some, None, map, slice_get, take, Footprint, Entry, Fault, fault, Completed, State, Thread, needed, needs, Notes, start_notes, Config, after_bare, entry_fault, foot_from, foot_in, machine_step, printed_by, Look, Own, thread_step, picks_break, planned, turned}
 use Rattle.std.proofs.Math.Seq.{take-append_seam}
-use Rattle.std.specs.Prelude.{map, slice_get, take, if◌then◌else◌}
+use Rattle.std.specs.Prelude.{if◌then◌else◌}
 use Rattle.mr_base.specs.declared.reason.Verdict.{Verdict}
-use Rattle.mr_base.specs.declared.reason.Verdict.TheVariants as verdict
 use Rattle.mr_base.specs.declared.thread.Status.{Status}
 use Rattle.mr_base.specs.declared.thread.Status.TheVariants.{Enabled, Ended, OnJoin, OnLock}
-use Rattle.mr_event.specs.Footprint.{Footprint}
-use Rattle.mr_sched.specs.declared.schedule.Entry.{Entry}
 use Rattle.mr_sync.specs.Tables.{is_enabled}
-use Rattle.mr_plan.specs.Legal.{Fault, count_of, else_fault, fault, needs_fault, status_fault}
-use Rattle.mr_plan.specs.Machine.{Bare, Completed, IllFormedStep, State, Stops, Thread, acted, bare, needed, needs, settled}
-use Rattle.mr_plan.specs.Notes.{Notes, start_notes}
+use Rattle.mr_plan.specs.Legal.{count_of, else_fault, needs_fault, status_fault}
+use Rattle.mr_plan.specs.Machine.{Bare, IllFormedStep, Stops, acted, bare, settled}
 use Rattle.mr_plan.specs.Queries.{Shared}
-use Rattle.mr_plan.specs.Runs.{Config, after_bare, entry_fault, fault_in, foot_from, foot_in, foot_of_bare, is_running, machine_step, printed_by, stepped_from}
-use Rattle.mr_frame.specs.Frames.{Look}
-use Rattle.mr_exchange.specs.StartSteps.{Own, thread_step}
-use Rattle.mr_turn.specs.Turning.{picks_break, planned, turned}
+use Rattle.mr_plan.specs.Runs.{fault_in, foot_of_bare, is_running, stepped_from}
+use Rattle.mr_base.specs.declared.reason.Verdict.TheVariants as verdict
 use Rattle.mr_sched.specs.declared.rule.ScheduleRule.TheVariants as rule
 
 -- a verdict with which the machine runs

@@ -1,18 +1,12 @@
 -- What a start keeps.
-use Rattle.std.proofs.Common.{◌≡◌, ℕ, sym, ap, ◌∙◌, subst, List, length, None}
-use Rattle.mr_ast.specs.declared.program.Program.{Program}
+use Rattle.mr_step.proofs.Common.{◌≡◌, ℕ, sym, ap, ◌∙◌, subst, List, length, None, Program, AreWithin, Config, Look, Own, IsSound}
 use Rattle.mr_typing.specs.Walk.{WellFormed}
-use Rattle.mr_plan.specs.Limits.{AreWithin}
-use Rattle.mr_plan.specs.Runs.{Config}
-use Rattle.mr_frame.specs.Frames.{Look}
-use Rattle.mr_exchange.specs.StartSteps.{Own}
 use Rattle.mr_turn.specs.Began.{Start}
 use Rattle.mr_exchange.specs.StartBegin.{IsStart}
 use Rattle.mr_exchange.specs.StartStart.{start_fault}
 use Rattle.mr_exchange.proofs.StartStartLimits.{start_within}
 use Rattle.mr_exchange.proofs.StartStartSound.{start_look, start_sound}
 use Rattle.mr_step.specs.First.{first_config}
-use Rattle.mr_step.specs.Kept.{IsSound}
 
 module _ (p : Program) (well : WellFormed p) (picks : List ℕ) (legal : start_fault p picks ≡ None) (s : Start) (h : IsStart p picks s) where
   -- there is a pointer for each function and global

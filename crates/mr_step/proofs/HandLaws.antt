@@ -1,17 +1,11 @@
 -- Footprints that are handed out, and those that are not.
-use Rattle.std.proofs.Common.{◌≡◌, ◌<◌, ℕ, arith, refl, sym, ap, ap₂, ◌∙◌, subst, All, List, [], ◌∷◌, length, true, false, Some, None, Ok}
-use Rattle.std.specs.Prelude.{take}
+use Rattle.mr_step.proofs.Common.{◌≡◌, ◌<◌, ℕ, arith, refl, sym, ap, ap₂, ◌∙◌, subst, All, List, [], ◌∷◌, length, true, false, Some, None, Ok, take, Footprint, Entry, Config, foot_from, has_rule, Own, thread_step, GoAnswer, StepAnswer, Standing}
 use Rattle.std.proofs.lemmas.List.Elements.{All-head}
-use Rattle.mr_event.specs.Footprint.{Footprint}
 use Rattle.mr_event.specs.FootOk.{IsFootOk}
 use Rattle.mr_event.specs.Order.{no_step}
-use Rattle.mr_sched.specs.declared.schedule.Entry.{Entry}
-use Rattle.mr_plan.specs.Runs.{Config, foot_from, has_rule}
-use Rattle.mr_exchange.specs.StartSteps.{Own, thread_step}
 use Rattle.mr_exchange.specs.StartRuns.{program_fault, program_step}
 use Rattle.mr_step.specs.declared.fault.Turn.{Turn}
-use Rattle.mr_step.specs.Answers.{FailsToHand, GoAnswer, Hands, RunsOut, StepAnswer, Steps, completed, stopped, turn_of}
-use Rattle.mr_step.specs.Standing.{Standing}
+use Rattle.mr_step.specs.Answers.{FailsToHand, Hands, RunsOut, Steps, completed, stopped, turn_of}
 use Rattle.mr_step.proofs.EntryLaws.{Left, left_by, legal_runs, made, none, printed_behind}
 
 module _ (e : Entry) (old new : Standing) (went : Turn) where

@@ -1,4 +1,5 @@
 pub mod AskLaws
+mod Common
 pub mod CompletedLaws
 pub mod EntryLaws
 pub mod FirstLaws

@@ -1,11 +1,6 @@
 -- Threads and their numbers.
-use Rattle.std.proofs.Common.{◌≡◌, ℕ, zero, suc, ◌+◌, refl, ap, arith, List, [], ◌∷◌, ◌++◌, length, Some}
-use Rattle.std.proofs.lemmas.Option.{same_Some}
-use Rattle.std.specs.Prelude.{slice_get, slice_set}
-use Rattle.mr_plan.specs.Machine.{Thread}
-use Rattle.mr_exchange.specs.StartSteps.{Own}
+use Rattle.mr_step.proofs.Common.{◌≡◌, ℕ, zero, suc, ◌+◌, refl, ap, arith, List, [], ◌∷◌, ◌++◌, length, Some, same_Some, slice_get, slice_set, Thread, Own, numbered, standing_thread}
 use Rattle.mr_step.specs.declared.progress.Thread.{Thread as KeptThread}
-use Rattle.mr_step.specs.Kept.{numbered, standing_thread}
 
 abbrev pub thread_as : ℕ → KeptThread → Thread Own
 thread_as n th = standing_thread n th.ended th.count th.stack

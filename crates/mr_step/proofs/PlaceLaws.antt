@@ -1,8 +1,8 @@
 -- Where a thread stands, as it is kept.
-use Rattle.std.proofs.Common.{◌≡◌, ℕ, zero, suc, Bool, true, false, List, [], ◌∷◌, slice_get, Some, refl}
-use Rattle.mr_step.specs.declared.progress.Thread.{Thread as KeptThread}
-use Rattle.mr_step.specs.Kept.{kept_place, numbered}
+use Rattle.mr_step.proofs.Common.{◌≡◌, ℕ, zero, suc, Bool, true, false, List, [], ◌∷◌, slice_get, Some, refl, numbered}
+use Rattle.mr_step.specs.Kept.{kept_place}
 use Rattle.mr_step.specs.Standing.{place_in}
+use Rattle.mr_step.specs.declared.progress.Thread.{Thread as KeptThread}
 
 one_place : (n : ℕ) (th : KeptThread) (threads : List KeptThread) → kept_place (Some th) ≡ place_in (slice_get (numbered n (th ∷ threads)) 0)
 one_place n th threads = go th.ended refl

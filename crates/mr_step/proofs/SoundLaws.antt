@@ -1,31 +1,21 @@
 -- What a machine that keeps what states keep says of an enabled thread.
-use Rattle.std.proofs.Common.{◌≡◌, ℕ, ◌<◌, refl, sym, ap, ◌∙◌, subst, arith, All, List, length, Bool, true, false, Option, Some, None}
-use Rattle.std.proofs.lemmas.Option.{same_Some, slice_get_within}
-use Rattle.std.specs.Prelude.{slice_get}
-use Rattle.std.specs.FinMap as fin
-use Rattle.mr_ast.specs.declared.program.Program.{Program}
+use Rattle.mr_step.proofs.Common.{◌≡◌, ℕ, ◌<◌, refl, sym, ap, ◌∙◌, subst, arith, All, List, length, Bool, true, false, Option, Some, None, same_Some, slice_get_within, slice_get, Program, Memory, Entry, Thread, AreWithin, Config, entry_fault, foot_from, has_rule, machine_step, Own, thread_step, Progress, BeginsAct, IsDue, IsSound, config_of, setting_look, state_of, state_unless}
 use Rattle.mr_base.specs.declared.byte.AllocId.{AllocId}
 use Rattle.mr_base.specs.declared.thread.Status.TheVariants.{Enabled}
-use Rattle.mr_mem.specs.Memory.{Allocation, Memory}
-use Rattle.mr_sched.specs.declared.schedule.Entry.{Entry}
-use Rattle.mr_plan.specs.Machine.{Thread}
-use Rattle.mr_plan.specs.Limits.{AreWithin}
-use Rattle.mr_plan.specs.Runs.{Config, entry_fault, foot_from, has_rule, machine_step}
-use Rattle.mr_frame.specs.declared.stack.Stack.{Stack as KeptStack}
-use Rattle.mr_frame.specs.declared.look.Look.{Look as KeptLook}
+use Rattle.mr_mem.specs.Memory.{Allocation}
 use Rattle.mr_frame.specs.Fits.{FitsStack, IsLook}
 use Rattle.mr_frame.specs.Kept.{stack_of}
 use Rattle.mr_frame.specs.Standing.{IsUncounted}
 use Rattle.mr_exchange.specs.StartSoundState.{IsCounted, SoundState}
-use Rattle.mr_exchange.specs.StartSteps.{Own, thread_step}
 use Rattle.mr_exchange.proofs.StartRunSound.{entry_sound}
 use Rattle.mr_event.specs.FootOk.{IsFootOk}
 use Rattle.mr_exchange.proofs.FootLimits.{entry_ok}
-use Rattle.mr_step.specs.declared.progress.Progress.{Progress}
-use Rattle.mr_step.specs.declared.progress.Thread.{Thread as KeptThread}
-use Rattle.mr_step.specs.Advance.{BeginsAct, IsDue}
 use Rattle.mr_step.specs.declared.setting.Setting.{Setting}
-use Rattle.mr_step.specs.Kept.{IsSet, IsSound, config_of, setting_look, stack_in, state_of, state_unless}
+use Rattle.mr_step.specs.Kept.{IsSet, stack_in}
+use Rattle.std.specs.FinMap as fin
+use Rattle.mr_frame.specs.declared.stack.Stack.{Stack as KeptStack}
+use Rattle.mr_frame.specs.declared.look.Look.{Look as KeptLook}
+use Rattle.mr_step.specs.declared.progress.Thread.{Thread as KeptThread}
 use Rattle.mr_step.proofs.Numbered.{numbered_at, numbered_length, thread_as}
 
 -- a stack that fits has a frame, so its thread hasn't ended

@@ -1,47 +1,33 @@
 -- Where the turn of an enabled thread leads.
-use Rattle.std.proofs.Common.{◌≡◌, ℕ, zero, suc, ◌++◌, arith, refl, sym, ap, ap₂, ◌∙◌, subst, List, [], ◌∷◌, length, true, Option, Some, None, Result, Err}
-use Rattle.std.proofs.lemmas.Option.{same_Some, slice_get_within}
+use Rattle.mr_step.proofs.Common.{◌≡◌, ℕ, zero, suc, ◌++◌, arith, refl, sym, ap, ap₂, ◌∙◌, subst, List, [], ◌∷◌, length, true, Option, Some, None, Err, same_Some, slice_get_within, slice_get, slice_set, option_map, Scene, Memory, Entry, Fault, Notes, Config, after_bare, entry_fault, Look, look_of, Own, thread_step, own_of, picks_break, planned, shared_in, turn_by, turned, Progress, ActAnswer, Advances, IsDue, Stays, fault_of, config_of, numbered, state_of, state_unless, LeadsTo, Tells, bare_by}
+use Rattle.std.proofs.Common.{Result}
 use Rattle.std.proofs.Math.ListN.{length-set}
-use Rattle.std.specs.Prelude.{slice_get, slice_set}
-use Rattle.std.specs.Option.{option_map}
 use Rattle.mr_base.specs.Stops.{Stop, stop_with}
 use Rattle.mr_base.specs.declared.reached.Reached.{Reached}
 use Rattle.mr_base.specs.declared.reason.Verdict.{Verdict}
-use Rattle.mr_base.specs.declared.reason.Verdict.TheVariants as verdict
 use Rattle.mr_eval.specs.Tally.{start_tally}
 use Rattle.mr_eval.specs.World.{tally_of, world_of}
-use Rattle.mr_eval.specs.declared.scene.Scene.{Scene}
-use Rattle.mr_mem.specs.Memory.{Memory}
-use Rattle.mr_sched.specs.declared.schedule.Entry.{Entry}
 use Rattle.mr_base.specs.Script.{Outcome, Refused}
 use Rattle.mr_sync.specs.Tables.{Tables}
-use Rattle.mr_plan.specs.Legal.{Fault}
-use Rattle.mr_plan.specs.Machine.{Aborts, Bare, Completed, Exits, Flow as Ways, Goes, IllFormedStep, Language, State, Stops, Thread, settle, settled, started_threads, thread_of}
-use Rattle.mr_plan.specs.Notes.{Notes}
 use Rattle.mr_plan.specs.Queries.{Shared}
-use Rattle.mr_plan.specs.Runs.{Config, after_bare, entry_fault}
 use Rattle.mr_frame.specs.declared.flow.Flow.{Flow}
+use Rattle.mr_exchange.specs.StartSteps.{Turn}
+use Rattle.mr_turn.specs.declared.deed.Deed.{Deed}
+use Rattle.mr_turn.specs.declared.deed.TurnFault.{TurnFault}
+use Rattle.mr_step.specs.Advance.{Acts, AdvanceAnswer, Keeps, WithoutAnswer, act_fault, act_outcome, world_at}
+use Rattle.mr_step.specs.declared.fault.StepFault.{StepFault}
+use Rattle.mr_step.specs.Settling.{Settles}
+use Rattle.mr_plan.proofs.Positions.{set_here}
+use Rattle.mr_base.specs.declared.reason.Verdict.TheVariants as verdict
+use Rattle.mr_plan.specs.Machine.{Aborts, Bare, Completed, Exits, Flow as Ways, Goes, IllFormedStep, Language, State, Stops, Thread, settle, settled, started_threads, thread_of}
 use Rattle.mr_frame.specs.declared.flow.Flow.TheVariants as flow
 use Rattle.mr_frame.specs.declared.look.Look.{Look as KeptLook}
 use Rattle.mr_frame.specs.declared.stack.Stack.{Stack as KeptStack}
-use Rattle.mr_frame.specs.Frames.{Look}
-use Rattle.mr_frame.specs.Kept.{look_of}
-use Rattle.mr_exchange.specs.StartSteps.{Own, Turn, thread_step}
-use Rattle.mr_turn.specs.declared.deed.Deed.{Deed}
-use Rattle.mr_turn.specs.declared.deed.TurnFault.{TurnFault}
 use Rattle.mr_turn.specs.declared.deed.TurnFault.TheVariants as turn
-use Rattle.mr_turn.specs.Turning.{own_of, picks_break, planned, shared_in, turn_by, turned}
-use Rattle.mr_step.specs.declared.progress.Progress.{Progress}
 use Rattle.mr_step.specs.declared.progress.Thread.{Thread as KeptThread}
-use Rattle.mr_step.specs.Advance.{ActAnswer, Acts, AdvanceAnswer, Advances, IsDue, Keeps, Stays, WithoutAnswer, act_fault, act_outcome, world_at}
-use Rattle.mr_step.specs.Answers.{fault_of}
-use Rattle.mr_step.specs.declared.fault.StepFault.{StepFault}
-use Rattle.mr_step.specs.Kept.{config_of, numbered, state_of, state_unless}
-use Rattle.mr_step.specs.Settling.{LeadsTo, Settles, Tells, bare_by}
 use Rattle.mr_step.proofs.EntryLaws.{fault_is, step_is}
 use Rattle.mr_step.proofs.Numbered.{numbered_set, set_twice, thread_as}
 use Rattle.mr_step.proofs.SoundLaws.{own_is, sound, state_is, thread_here}
-use Rattle.mr_plan.proofs.Positions.{set_here}
 
 -- a bare step leads on from no state
 bare_leads : {L : Type 0} (step : Language L) (c : Config L) (o : Option (State L)) (b : Bare L) → after_bare step (record c { state = o }) b ≡ after_bare step c b

@@ -1,14 +1,11 @@
 -- A group of the machine's list, by what is counted of Rust's at its places.
-use Rattle.std.proofs.Common.{◌≡◌, ℕ, ◌<◌, ◌≤◌, arith, List, [], ◌++◌, sym, ap, ◌∙◌, append-nil}
+use Rattle.mr_traced.proofs.Common.{◌≡◌, ℕ, ◌<◌, ◌≤◌, arith, List, [], ◌++◌, sym, ap, ◌∙◌, count_by, Group, both_of, is_at, machine_text, group_text, Seen}
+use Rattle.std.proofs.Common.{append-nil}
 use Rattle.std.proofs.lemmas.Bool.{eq-eqb, ne_eqb}
-use Rattle.std.specs.Prelude.{◌==◌, if◌then◌else◌, count_by}
+use Rattle.std.specs.Prelude.{◌==◌, if◌then◌else◌}
 use Rattle.mr_rust_order.specs.Tests.{rust_races}
-use Rattle.mr_listing.specs.declared.pairs.Group.{Group}
 use Rattle.mr_two_orders.specs.Standing.{machine_line}
-use Rattle.mr_traced.specs.Groups.{both_of, is_at}
-use Rattle.mr_traced.specs.Orders.{by_rust, count_in, machine_text}
-use Rattle.mr_traced.specs.Races.{group_text}
-use Rattle.mr_traced.specs.Seen.{Seen}
+use Rattle.mr_traced.specs.Orders.{by_rust, count_in}
 
 module _ (s r : Seen) (g : Group) (is : r ≡ by_rust s) (n : ℕ) (count : n ≡ count_by (is_at r (both_of r g.first)) r.races) where
   counted : n ≡ count_in (by_rust s) g

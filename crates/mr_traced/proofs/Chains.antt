@@ -1,13 +1,11 @@
 -- What is told of what files say, step by step.
-use Rattle.std.proofs.Common.{◌≡◌, ℕ, List, length, Result, Ok, ap₂, subst, ◌∙◌, ap}
-use Rattle.mr_event.specs.Footprint.{Footprint}
+use Rattle.mr_traced.proofs.Common.{◌≡◌, ℕ, List, length, Result, Ok, ap₂, subst, ◌∙◌, ap, Footprint, Pair, Tells, TellsBy, Seen, seen_bare, seen_in}
 use Rattle.mr_event.specs.Predicted.{predicted}
-use Rattle.mr_event.specs.declared.footprint.Pair.{Pair}
 use Rattle.mr_traced.specs.declared.refusal.Untold.{Untold}
 use Rattle.mr_traced.specs.declared.telling.Told.{Told}
-use Rattle.mr_traced.specs.Answers.{Tells, TellsBy, all_races}
+use Rattle.mr_traced.specs.Answers.{all_races}
 use Rattle.mr_traced.specs.Places.{Named, no_names}
-use Rattle.mr_traced.specs.Seen.{Seen, fitting, seen_bare, seen_in, seen_of}
+use Rattle.mr_traced.specs.Seen.{fitting, seen_of}
 
 -- what was told of a run
 abbrev pub IsToldBy : (Seen → ℕ) → (Seen → List ℕ → Type 0) → Told → Named → List Footprint → Type 0

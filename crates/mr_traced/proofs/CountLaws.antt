@@ -1,18 +1,11 @@
 -- The races that pass a test, with one race more.
-use Rattle.std.proofs.Common.{◌≡◌, ◌≢◌, ℕ, ◌+◌, ◌≤◌, Bool, true, false, cond, arith, true≢false, List, [], ◌∷◌, ◌++◌}
-use Rattle.std.proofs.Common.{length}
-use Rattle.std.proofs.Common.{refl, sym, ap, ap₂, ◌∙◌}
+use Rattle.mr_traced.proofs.Common.{◌≡◌, ℕ, ◌+◌, ◌≤◌, Bool, true, false, cond, arith, true≢false, List, [], ◌∷◌, ◌++◌, length, refl, sym, ap, ap₂, ◌∙◌, All-contains, none-some, same_Some, All, Contains, count_by, IfSome, Option, None, Some, filter, find, Pair, Group, count_of, grouped, raised}
+use Rattle.std.proofs.Common.{◌≢◌}
 use Rattle.std.proofs.lemmas.List.{length-append}
-use Rattle.std.proofs.lemmas.List.Elements.{All-cons, All-contains, All-nil, filter-append}
+use Rattle.std.proofs.lemmas.List.Elements.{All-cons, All-nil, filter-append}
 use Rattle.std.proofs.lemmas.List.Folds.{find-append}
 use Rattle.std.proofs.lemmas.List.Sums.{count_by-le-length, length-filter}
-use Rattle.std.proofs.lemmas.Option.{none-some, same_Some}
-use Rattle.std.specs.Prelude.{All, Contains, count_by, IfSome, Option, None, Some}
-use Rattle.std.specs.List.{filter, find}
 use Rattle.std.specs.Option.{option_or}
-use Rattle.mr_event.specs.declared.footprint.Pair.{Pair}
-use Rattle.mr_listing.specs.declared.pairs.Group.{Group}
-use Rattle.mr_traced.specs.Groups.{count_of, grouped, raised}
 
 -- so many, the first of which is this one
 abbrev pub group : Pair → ℕ → Group

@@ -1,13 +1,9 @@
 -- What is drawn of a trace.
-use Rattle.std.proofs.Common.{ℕ, ◌-◌, ◌<◌, ◌≤◌, ◌^◌, length, arith}
-use Rattle.std.proofs.lemmas.List.Elements.{All-map}
-use Rattle.std.specs.Prelude.{All}
+use Rattle.mr_traced.proofs.Common.{ℕ, ◌-◌, ◌<◌, ◌≤◌, ◌^◌, length, arith, All-map, All, drawn_step, drawn_steps, Seen}
 use Rattle.mr_picture.specs.declared.span.Span.{Span}
 use Rattle.mr_picture.specs.Span.{steps_in}
 use Rattle.mr_picture.proofs.Members.{from_range}
 use Rattle.mr_picture.proofs.Within.{each}
-use Rattle.mr_traced.specs.Drawn.{drawn_step, drawn_steps}
-use Rattle.mr_traced.specs.Seen.{Seen}
 
 -- the numbers of the drawn steps are small
 pub drawn_small : (s : Seen) (span : Span) → length s.run < 2 ^ 32 → span.to ≤ length s.run

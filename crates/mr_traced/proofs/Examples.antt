@@ -1,15 +1,11 @@
 -- A file of places, and two races at one pair of places.
-use Rattle.std.proofs.Common.{◌≡◌, ℕ, List, [], ◌∷◌, ◌++◌, Ok, Err, refl}
-use Rattle.std.specs.Prelude.{codes, None, Some}
+use Rattle.mr_traced.proofs.Common.{◌≡◌, ℕ, List, [], ◌∷◌, ◌++◌, Ok, refl, codes, None, Some, Pair, group_at, named_of, Seen}
+use Rattle.std.proofs.Common.{Err}
 use Rattle.mr_words.specs.AstWords.{is_number}
-use Rattle.mr_event.specs.declared.footprint.Pair.{Pair}
 use Rattle.mr_traced.specs.declared.form.Site.{Site}
+use Rattle.mr_traced.specs.Names.{site_text}
 use Rattle.mr_traced.specs.declared.refusal.PlacesFault.TheVariants as fault
 use Rattle.mr_traced.specs.declared.refusal.Untold.TheVariants as untold
-use Rattle.mr_traced.specs.Groups.{group_at}
-use Rattle.mr_traced.specs.Names.{site_text}
-use Rattle.mr_traced.specs.Places.{named_of}
-use Rattle.mr_traced.specs.Seen.{Seen}
 
 abbrev line : List ℕ → List ℕ
 line text = text ++ 10 ∷ []

@@ -1,28 +1,17 @@
 -- The groups that the code counts are those of the definition.
-use Rattle.std.proofs.Common.{◌≡◌, ℕ, suc, arith, Contains, option_map, ◌+◌, ◌<◌, ◌≤◌, Bool, true, cond, List, []}
-use Rattle.std.proofs.Common.{◌∷◌, ◌++◌, length, get_or, take, map, refl, sym, ap, ap₂}
-use Rattle.std.proofs.Common.{◌∙◌, subst}
+use Rattle.mr_traced.proofs.Common.{◌≡◌, ℕ, arith, Contains, ◌+◌, ◌<◌, ◌≤◌, Bool, true, cond, List, [], ◌∷◌, ◌++◌, length, get_or, take, map, refl, sym, ap, ap₂, ◌∙◌, subst, All-map, none-some, same_Some, BTreeMap, IsOrdered, get, Any, find, IsStrictlySortedBy, values_of, ◌&&◌, All, count_by, IfSome, Option, None, Some, slice_get, Equal, Less, Pair, Group, Both, AreGroups, both_cmp, both_of, group_at, grouped, is_at, raised, same_both, Seen}
+use Rattle.std.proofs.Common.{suc, option_map}
 use Rattle.std.proofs.lemmas.List.{take_more}
-use Rattle.std.proofs.lemmas.List.Elements.{All-map, Contains-get_or}
+use Rattle.std.proofs.lemmas.List.Elements.{Contains-get_or}
 use Rattle.std.proofs.lemmas.Simd.{map-map}
 use Rattle.std.proofs.lemmas.Map.Entries.{place_from_lookup}
-use Rattle.std.proofs.lemmas.Option.{get_or_from_slice_get, none-some, same_Some, slice_get-map, slice_get_within}
-use Rattle.std.specs.BTreeMap.{BTreeMap, IsOrdered, get}
+use Rattle.std.proofs.lemmas.Option.{get_or_from_slice_get, slice_get-map, slice_get_within}
 use Rattle.std.specs.Cmp.{IsTotalOrder, eq_by_cmp_equiv, nat_cmp_total, on_total, then_total, tied_itself}
-use Rattle.std.specs.FinMap as fin
-use Rattle.std.specs.List.{Any, find}
-use Rattle.std.specs.List.Sorted.{IsStrictlySortedBy}
-use Rattle.std.specs.Map.{values_of}
 use Rattle.std.specs.Ordering.{is_eq, nat_cmp, ordering_then}
-use Rattle.std.specs.Prelude.{◌&&◌, All, count_by, IfSome, Option, None, Some, slice_get}
 use Rattle.std.specs.declared.cmp.Ordering.{Ordering}
-use Rattle.std.specs.declared.cmp.Ordering.TheVariants.{Equal, Greater, Less}
-use Rattle.mr_event.specs.declared.footprint.Pair.{Pair}
-use Rattle.mr_listing.specs.declared.pairs.Group.{Group}
-use Rattle.mr_traced.specs.declared.count.Both.{Both}
+use Rattle.std.specs.declared.cmp.Ordering.TheVariants.{Greater}
 use Rattle.mr_listing.proofs.AlikeLaws.{eq_numbers, eq_then}
-use Rattle.mr_traced.specs.Groups.{AreGroups, both_cmp, both_of, group_at, grouped, is_at, raised, same_both}
-use Rattle.mr_traced.specs.Seen.{Seen}
+use Rattle.std.specs.FinMap as fin
 use Rattle.mr_traced.proofs.CountLaws.{few_grouped, found_passes, group, grouped_more, not_missed}
 
 -- ---- the order of places

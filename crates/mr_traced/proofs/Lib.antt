@@ -1,5 +1,6 @@
 pub mod AloneLaws
 pub mod Chains
+mod Common
 pub mod CountLaws
 pub mod DrawnLaws
 mod Examples

@@ -1,8 +1,7 @@
 -- Lists that a loop makes of the elements of another one.
-use Rattle.std.proofs.Common.{◌≡◌, ℕ, ◌+◌, ◌<◌, Bool, cond, List, [], ◌∷◌, ◌++◌, length, get_or, take, map}
-use Rattle.std.proofs.Common.{refl, sym, ap, ap₂, ◌∙◌}
+use Rattle.mr_traced.proofs.Common.{◌≡◌, ℕ, ◌+◌, ◌<◌, Bool, cond, List, [], ◌∷◌, ◌++◌, length, get_or, take, map, refl, sym, ap, ap₂, ◌∙◌, flat_map, None, Some}
 use Rattle.std.proofs.lemmas.List.{flat_map_more, length-map, take_more}
-use Rattle.std.specs.Prelude.{not, flat_map, nat_lt, position, None, Some}
+use Rattle.std.specs.Prelude.{not, nat_lt, position}
 use Rattle.std.specs.List.{position_or_len}
 
 -- one element more

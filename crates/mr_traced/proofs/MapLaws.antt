@@ -1,22 +1,13 @@
 -- The map that the code counts in is that of the definition.
-use Rattle.std.proofs.Common.{◌≡◌, Bool, true, false, cond, T, List, [], ◌∷◌, map, refl, sym, ap, ◌∙◌, subst}
+use Rattle.mr_traced.proofs.Common.{◌≡◌, Bool, true, false, cond, List, [], ◌∷◌, map, refl, sym, ap, ◌∙◌, subst, none-some, BTreeMap, IsOrdered, get, AllByRecursion, find, IsStrictlySortedBy, values_of, ◌&&◌, count_by, Option, None, Some, Less, Pair, Group, Both, both_cmp, both_of, group_at, grouped, is_at, Seen}
+use Rattle.std.proofs.Common.{T}
 use Rattle.std.proofs.lemmas.Map.Keys.{sorted_head, sorted_tail}
-use Rattle.std.proofs.lemmas.Option.{none-some}
-use Rattle.std.specs.BTreeMap.{BTreeMap, IsOrdered, get}
-use Rattle.std.specs.FinMap as fin
 use Rattle.std.specs.FinMap.Entries.{below_all, is_sorted, same_entries}
-use Rattle.std.specs.List.{AllByRecursion, find}
-use Rattle.std.specs.List.Sorted.{IsStrictlySortedBy}
-use Rattle.std.specs.Map.{keys_of, lookup, values_of}
+use Rattle.std.specs.Map.{keys_of, lookup}
 use Rattle.std.specs.Ordering.{is_eq, is_lt}
-use Rattle.std.specs.Prelude.{◌&&◌, count_by, Option, None, Some}
 use Rattle.std.specs.declared.cmp.Ordering.{Ordering}
-use Rattle.std.specs.declared.cmp.Ordering.TheVariants.{Less}
-use Rattle.mr_event.specs.declared.footprint.Pair.{Pair}
-use Rattle.mr_listing.specs.declared.pairs.Group.{Group}
-use Rattle.mr_traced.specs.declared.count.Both.{Both}
-use Rattle.mr_traced.specs.Groups.{both_cmp, both_of, first_or, group_at, group_of, grouped, groups, is_at, placed}
-use Rattle.mr_traced.specs.Seen.{Seen}
+use Rattle.mr_traced.specs.Groups.{first_or, group_of, groups, placed}
+use Rattle.std.specs.FinMap as fin
 use Rattle.mr_traced.proofs.CountLaws.{group}
 use Rattle.mr_traced.proofs.GroupLaws.{both_exact, both_total, eq_both, is_equal}
 

@@ -1,18 +1,10 @@
 -- Each race is of the places of exactly one group.
-use Rattle.std.proofs.Common.{◌≡◌, Bool, true, false, cond, true≢false, List, [], ◌∷◌, length, map, refl, sym, ap, ◌∙◌}
-use Rattle.std.proofs.lemmas.List.Elements.{All-contains}
+use Rattle.mr_traced.proofs.Common.{◌≡◌, Bool, true, false, cond, true≢false, List, [], ◌∷◌, length, map, refl, sym, ap, ◌∙◌, All-contains, AllByRecursion, Any, filter, IsStrictlySortedBy, Equal, Less, Pair, Group, Both, AreGroups, both_cmp, both_of, is_at, same_both, Seen}
 use Rattle.std.proofs.lemmas.List.Folds.{list_any-from_Any}
 use Rattle.std.proofs.lemmas.Map.Keys.{sorted_head, sorted_tail}
 use Rattle.std.specs.Cmp.{tied_itself}
-use Rattle.std.specs.List.{AllByRecursion, Any, Contains, filter, list_any}
-use Rattle.std.specs.List.Sorted.{IsStrictlySortedBy}
+use Rattle.std.specs.List.{Contains, list_any}
 use Rattle.std.specs.Prelude.{◌||◌}
-use Rattle.std.specs.declared.cmp.Ordering.TheVariants.{Equal, Less}
-use Rattle.mr_event.specs.declared.footprint.Pair.{Pair}
-use Rattle.mr_listing.specs.declared.pairs.Group.{Group}
-use Rattle.mr_traced.specs.declared.count.Both.{Both}
-use Rattle.mr_traced.specs.Groups.{AreGroups, both_cmp, both_of, is_at, same_both}
-use Rattle.mr_traced.specs.Seen.{Seen}
 use Rattle.mr_traced.proofs.GroupLaws.{both_exact, both_total, eq_both, is_equal}
 
 less_equal : Less ≡ Equal → ⊥

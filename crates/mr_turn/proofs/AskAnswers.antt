@@ -1,48 +1,18 @@
 -- What the code tells of what a step asks for, by its parts.
-use Rattle.std.proofs.Common.{◌≡◌, ℕ, refl, sym, ap, ap₂, ◌∙◌, subst, List, [], ◌∷◌, true, false, Option, Some, None, Result, Ok, Err}
-use Rattle.std.specs.Option.{option_map}
+use Rattle.mr_turn.proofs.Common.{◌≡◌, ℕ, refl, sym, ap, ap₂, ◌∙◌, subst, List, [], ◌∷◌, true, false, Option, Some, None, Result, Ok, Err, option_map, same_Some, Stop, Intrinsic, Ty, Pointer, Reason, Memory, Ask, Address, Val, Went, Refused, on, run, Tables, Seen, CreatesThread, needs_of, no_needs, Notes, start_notes, Shared, answer, moved_to, DueDo, Operands, OperandsFit, next_do, nothing_seen, same_types, storage_asks, operands_of, argued, Look, look_of, stack_of, DoCall, Fits, IsOperation, shared_of, TellsNeeds, Operation, operation, Own, operated, thread_types, AsksAnswer, step_needs, do_planned, own_of}
 use Rattle.std.proofs.lemmas.List.{append-nil}
-use Rattle.std.proofs.lemmas.Option.{same_Some}
-use Rattle.mr_base.specs.Stops.{Stop}
-use Rattle.mr_ast.specs.declared.program.Intrinsic.{Intrinsic}
+use Rattle.mr_intr.specs.Needs.{asks_of, creation_of}
+use Rattle.mr_intr.specs.declared.need.Needs.{Needs}
+use Rattle.mr_start.specs.Steps.{last_payload}
+use Rattle.mr_frame.specs.PlanLegal.{Fault}
+use Rattle.mr_turn.specs.Asking.{AsksFunction, IsAsked, bare_fault, do_needs}
+use Rattle.mr_frame.proofs.CallSafe.{equal_types}
 use Rattle.mr_ast.specs.declared.program.Intrinsic.TheVariants as intrinsic
-use Rattle.mr_ast.specs.declared.types.Ty.{Ty}
-use Rattle.mr_base.specs.declared.byte.Pointer.{Pointer}
-use Rattle.mr_base.specs.declared.reason.Reason.{Reason}
-use Rattle.mr_mem.specs.Memory.{Memory}
-use Rattle.mr_sched.specs.declared.schedule.Ask.{Ask}
-use Rattle.mr_sched.specs.declared.schedule.Ask.TheVariants.{Address}
-use Rattle.mr_value.specs.declared.val.Val.{Val}
-use Rattle.mr_base.specs.Script.{Went, Refused, on, run}
-use Rattle.mr_sync.specs.Tables.{Tables}
-use Rattle.mr_eval.specs.Reads.{Seen}
-use Rattle.mr_frame.specs.PlanMachine.{CreatesThread, needs_of, no_needs}
-use Rattle.mr_frame.specs.PlanNotes.{Notes, start_notes}
-use Rattle.mr_frame.specs.PlanQueries.{Shared, answer}
-use Rattle.mr_frame.proofs.PlanReadingRuns.{moved_to}
-use Rattle.mr_frame.specs.Operations.{DueDo, Operands, OperandsFit, next_do}
-use Rattle.mr_frame.specs.Acting.{nothing_seen}
-use Rattle.mr_frame.specs.Calls.{same_types, storage_asks}
-use Rattle.mr_frame.specs.Doing.{operands_of}
-use Rattle.mr_frame.specs.Effects.{argued}
-use Rattle.mr_frame.specs.Frames.{Look}
-use Rattle.mr_frame.specs.Kept.{look_of, stack_of}
-use Rattle.mr_frame.specs.declared.dos.DoCall.{DoCall}
 use Rattle.mr_frame.specs.declared.look.Look.{Look as KeptLook}
 use Rattle.mr_frame.specs.declared.stack.Stack.{Stack as KeptStack}
-use Rattle.mr_intr.specs.Effects.{Fits, IsOperation, shared_of}
-use Rattle.mr_intr.specs.Needs.{TellsNeeds, asks_of, creation_of}
-use Rattle.mr_intr.specs.Operations.{Operation, operation}
-use Rattle.mr_intr.specs.declared.need.Needs.{Needs}
-use Rattle.mr_start.specs.Steps.{Own, last_payload, operated, thread_types}
-use Rattle.mr_frame.specs.PlanLegal.{Fault}
-use Rattle.mr_turn.specs.Asking.{AsksAnswer, AsksFunction, IsAsked, bare_fault, do_needs, step_needs}
-use Rattle.mr_turn.specs.Doing.{do_planned}
-use Rattle.mr_turn.specs.Turning.{own_of}
 use Rattle.mr_turn.proofs.DoTurns.{argued_planned, by_operation, operation_needs}
 use Rattle.mr_turn.proofs.SpawnAnswers.{thread_asks}
 use Rattle.mr_turn.proofs.SpawnTurns.{other_planned, start_planned}
-use Rattle.mr_frame.proofs.CallSafe.{equal_types}
 
 -- the code that is told
 pub told_code : (o : Option ℕ) (f : Option Fault) → bare_fault o ≡ f → o ≡ option_map (λ (x : Fault). x.code) f

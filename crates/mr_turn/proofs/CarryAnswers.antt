@@ -1,39 +1,15 @@
 -- What the code of an operation whose needs are met finds and answers.
-use Rattle.std.proofs.Common.{◌≡◌, ℕ, refl, sym, ap, ap₂, ◌∙◌, subst, arith, List, [], length, Option, Some, None, Result, Ok, Err}
-use Rattle.mr_base.specs.Stops.{Stop, stop_with}
-use Rattle.mr_ast.specs.declared.program.Intrinsic.{Intrinsic}
-use Rattle.mr_base.specs.declared.reason.Reason.{Reason}
+use Rattle.mr_turn.proofs.Common.{◌≡◌, ℕ, refl, sym, ap, ap₂, ◌∙◌, subst, arith, List, [], length, Option, Some, None, Result, Ok, Err, Stop, stop_with, Intrinsic, Reason, Outcome, Refused, run, Tables, world_of, Scene, Ty, Memory, Val, needs_fault, Notes, Shared, answer, ValueFits, result_fits, operands_of, finished, look_of, stack_of, DueDo, Operands, next_do, DoCall, Fits, IsOperation, shared_of, TellsNeeds, Operation, operation, Deed, TurnFault, CanEnd, EndAnswer, IsGiven, IsTold, do_breaks, do_comes_to, do_planned, DeedAnswer, Does, begun, fault_from, own_of, shared_in}
+use Rattle.mr_intr.specs.Effects.{AreLawful, CanCount, FitsPlace, operated}
+use Rattle.mr_intr.specs.declared.need.Needs.{Needs}
+use Rattle.mr_intr.specs.declared.effect.Effect.{Effect}
+use Rattle.mr_turn.specs.Doing.{MeetsNeeds}
+use Rattle.mr_turn.specs.Turning.{noted}
 use Rattle.mr_mem.specs.declared.fault.Fault.{Fault as MemoryFault}
-use Rattle.mr_base.specs.Script.{Outcome, Refused, run}
-use Rattle.mr_sync.specs.Tables.{Tables}
-use Rattle.mr_eval.specs.World.{world_of}
-use Rattle.mr_eval.specs.declared.scene.Scene.{Scene}
-use Rattle.mr_ast.specs.declared.types.Ty.{Ty}
-use Rattle.mr_mem.specs.Memory.{Memory}
-use Rattle.mr_value.specs.declared.val.Val.{Val}
-use Rattle.mr_frame.specs.PlanLegal.{needs_fault}
 use Rattle.mr_frame.specs.PlanMachine as Machine
-use Rattle.mr_frame.specs.PlanNotes.{Notes}
-use Rattle.mr_frame.specs.PlanQueries.{Shared, answer}
-use Rattle.mr_frame.proofs.DoSafe.{ValueFits}
-use Rattle.mr_frame.proofs.ResultFits.{result_fits}
-use Rattle.mr_frame.specs.Doing.{operands_of}
-use Rattle.mr_frame.specs.Effects.{finished}
-use Rattle.mr_frame.specs.Kept.{look_of, stack_of}
-use Rattle.mr_frame.specs.Operations.{DueDo, Operands, next_do}
-use Rattle.mr_frame.specs.declared.dos.DoCall.{DoCall}
 use Rattle.mr_frame.specs.declared.look.Look.{Look as KeptLook}
 use Rattle.mr_frame.specs.declared.stack.Stack.{Stack as KeptStack}
 use Rattle.mr_intr.specs.Effects as Effects
-use Rattle.mr_intr.specs.Effects.{AreLawful, CanCount, FitsPlace, Fits, IsOperation, operated, shared_of}
-use Rattle.mr_intr.specs.Needs.{TellsNeeds}
-use Rattle.mr_intr.specs.Operations.{Operation, operation}
-use Rattle.mr_intr.specs.declared.need.Needs.{Needs}
-use Rattle.mr_intr.specs.declared.effect.Effect.{Effect}
-use Rattle.mr_turn.specs.declared.deed.Deed.{Deed}
-use Rattle.mr_turn.specs.declared.deed.TurnFault.{TurnFault}
-use Rattle.mr_turn.specs.Doing.{CanEnd, EndAnswer, IsGiven, IsTold, MeetsNeeds, do_breaks, do_comes_to, do_planned}
-use Rattle.mr_turn.specs.Turning.{DeedAnswer, Does, begun, fault_from, noted, own_of, shared_in}
 use Rattle.mr_turn.proofs.DoAnswers.{end_is_deed, end_refused, given_for, operated_refused, operation_breaks, operation_comes, operation_done, operation_refused, operation_stops}
 use Rattle.mr_turn.proofs.FrameAnswers.{stopped_deed}
 

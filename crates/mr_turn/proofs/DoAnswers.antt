@@ -1,61 +1,30 @@
 -- What the code of an intrinsic's turn answers, by its parts.
-use Rattle.std.proofs.Common.{◌≡◌, ℕ, refl, subst, sym, ap, ap₂, ◌∙◌, List, [], ◌∷◌, true, Option, Some, None, Result, Ok, Err}
-use Rattle.std.specs.Prelude.{if◌then◌else◌, slice_get}
-use Rattle.std.proofs.lemmas.Option.{same_Some}
-use Rattle.std.specs.Option.{option_map}
-use Rattle.mr_base.specs.Stops.{Stop, plainly, stop_with}
+use Rattle.mr_turn.proofs.Common.{◌≡◌, ℕ, refl, subst, sym, ap, ap₂, ◌∙◌, List, [], ◌∷◌, true, Option, Some, None, Result, Ok, Err, if◌then◌else◌, slice_get, same_Some, option_map, Stop, plainly, stop_with, Reason, Intrinsic, Ty, Pointer, NoPayload, Memory, Val, ValueFits, DueDo, Operands, OperandsFit, next_do, operands, Done, Undefined, ◌>>=◌, Outcome, Went, Refused, on, run, run_bind, Tables, seen, TellsBy, tally_of, world_of, Scene, Tally, needs_fault, Goes, Plan, needs_of, Notes, Shared, answer, moved_to, DoCall, operands_of, Seen, Stack, IsReady, look_of, stack_of, Operation, operation, IsOperation, Deed, TurnFault, EndAnswer, IsGiven, IsNoted, IsTold, do_breaks, do_comes_to, do_planned, do_turned, DeedAnswer, StopAnswer, TurnAnswer, Turned, asks_break, begun, breaks, comes_to, fault_from, own_of, picks_break, planned, printed_lines, shared_in, turn_by}
 use Rattle.mr_base.specs.declared.reached.Reached.{Reached}
-use Rattle.mr_base.specs.declared.reason.Reason.{Reason}
-use Rattle.mr_ast.specs.declared.program.Intrinsic.{Intrinsic}
-use Rattle.mr_ast.specs.declared.program.Intrinsic.TheVariants as intrinsic
-use Rattle.mr_ast.specs.declared.types.Ty.{Ty}
-use Rattle.mr_base.specs.declared.byte.Pointer.{Pointer}
-use Rattle.mr_base.specs.declared.reason.Reason.TheVariants.{NoPayload}
-use Rattle.mr_mem.specs.declared.fault.Fault.{Fault as MemoryFault}
-use Rattle.mr_mem.specs.declared.fault.Fault.TheVariants as memory_fault
-use Rattle.mr_mem.specs.Memory.{Memory}
-use Rattle.mr_value.specs.declared.val.Val.{Val}
-use Rattle.mr_value.specs.declared.val.Val.TheVariants as val
-use Rattle.mr_ast.specs.declared.types.Ty.TheVariants as ty
 use Rattle.mr_value.proofs.ShapeLaws.{has_raw}
-use Rattle.mr_frame.proofs.DoSafe.{ValueFits, do_stands, operands_safe}
-use Rattle.mr_frame.specs.Operations.{DueDo, Operands, OperandsFit, next_do, operands}
+use Rattle.mr_frame.proofs.DoSafe.{do_stands, operands_safe}
 use Rattle.mr_intr.proofs.OperationSafe.{result_is}
 use Rattle.mr_typing.specs.Intrinsics.{fits_intrinsic, is_print}
-use Rattle.mr_base.specs.Script.{Done, Undefined, ◌>>=◌, Outcome, Went, Refused, on, run}
-use Rattle.mr_base.proofs.ScriptRuns.{run_bind}
-use Rattle.mr_sync.specs.Tables.{Tables}
-use Rattle.mr_eval.specs.Answers.{seen}
-use Rattle.mr_eval.specs.World.{TellsBy, World, tally_of, world_of}
-use Rattle.mr_eval.specs.declared.notes.Notes.{Notes as KeptNotes}
-use Rattle.mr_eval.specs.declared.scene.Scene.{Scene}
-use Rattle.mr_eval.specs.Tally.{Tally}
-use Rattle.mr_frame.specs.PlanLegal.{needs_fault}
-use Rattle.mr_frame.specs.PlanMachine.{Goes, Needs, Plan, needs_of}
-use Rattle.mr_frame.specs.PlanNotes.{Notes}
-use Rattle.mr_frame.specs.PlanQueries.{Shared, answer}
-use Rattle.mr_frame.proofs.PlanReadingRuns.{moved_to}
-use Rattle.mr_frame.specs.declared.dos.DoCall.{DoCall}
-use Rattle.mr_frame.specs.declared.look.Look.{Look as KeptLook}
-use Rattle.mr_frame.specs.declared.stack.Stack.{Stack as KeptStack}
-use Rattle.mr_frame.specs.Doing.{operands_of}
-use Rattle.mr_frame.specs.Effects.{argued, finished as ended}
+use Rattle.mr_eval.specs.World.{World}
+use Rattle.mr_frame.specs.PlanMachine.{Needs}
 use Rattle.mr_eval.proofs.SafeRuns.{safe_comes}
-use Rattle.mr_eval.specs.Reads.{Seen}
 use Rattle.mr_eval.specs.Sound.{Comes}
 use Rattle.mr_frame.specs.Fits.{FitsStack, IsLook}
-use Rattle.mr_frame.specs.Frames.{Stack}
-use Rattle.mr_frame.specs.Kept.{IsReady, look_of, stack_of}
-use Rattle.mr_intr.specs.Operations.{Operation, instant, operation}
-use Rattle.mr_intr.specs.Effects as Effects
-use Rattle.mr_intr.specs.Effects.{IsDone, IsOperation, Prints, operated}
+use Rattle.mr_intr.specs.Operations.{instant}
+use Rattle.mr_intr.specs.Effects.{IsDone, Prints, operated}
 use Rattle.mr_intr.specs.declared.effect.Effect.{Effect}
+use Rattle.mr_ast.specs.declared.program.Intrinsic.TheVariants as intrinsic
+use Rattle.mr_mem.specs.declared.fault.Fault.{Fault as MemoryFault}
+use Rattle.mr_mem.specs.declared.fault.Fault.TheVariants as memory_fault
+use Rattle.mr_value.specs.declared.val.Val.TheVariants as val
+use Rattle.mr_ast.specs.declared.types.Ty.TheVariants as ty
+use Rattle.mr_eval.specs.declared.notes.Notes.{Notes as KeptNotes}
+use Rattle.mr_frame.specs.declared.look.Look.{Look as KeptLook}
+use Rattle.mr_frame.specs.declared.stack.Stack.{Stack as KeptStack}
+use Rattle.mr_frame.specs.Effects.{argued, finished as ended}
+use Rattle.mr_intr.specs.Effects as Effects
 use Rattle.mr_start.specs.Steps.{Own, Turn, finishing, last_payload, planned as plan_behind, with_stack}
-use Rattle.mr_turn.specs.declared.deed.Deed.{Deed}
-use Rattle.mr_turn.specs.declared.deed.TurnFault.{TurnFault}
 use Rattle.mr_turn.specs.declared.deed.TurnFault.TheVariants as answer
-use Rattle.mr_turn.specs.Doing.{EndAnswer, IsGiven, IsNoted, IsTold, do_breaks, do_comes_to, do_planned, do_turned}
-use Rattle.mr_turn.specs.Turning.{DeedAnswer, StopAnswer, TurnAnswer, Turned, asks_break, begun, breaks, comes_to, fault_from, own_of, picks_break, planned, printed_lines, shared_in, turn_by}
 use Rattle.mr_turn.proofs.DoTurns.{argued_planned, argued_turned, by_operation, finishing_run, operation_needs, operation_turned, plan_is}
 
 -- a step that stops before it has a plan needs no pick, and may have none

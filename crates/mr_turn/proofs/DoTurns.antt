@@ -1,25 +1,9 @@
 -- The turn of a thread whose next step is an intrinsic, by what this is given, by what its operation comes to, and by how it ends.
-use Rattle.std.proofs.Common.{◌≡◌, ℕ, refl, sym, ap, ◌∙◌, List, Option, Some, None}
-use Rattle.mr_ast.specs.declared.program.Intrinsic.{Intrinsic}
+use Rattle.mr_turn.proofs.Common.{◌≡◌, ℕ, refl, sym, ap, ◌∙◌, List, Option, Some, None, Intrinsic, Val, Done, ◌>>=◌, Outcome, Went, Refused, Broken, on, run, run_bind, reading_part, Seen, seen_of, with_seen, Goes, Plan, needs_of, Notes, Shared, StepScript, answer, memory_then, moved_to, on_then, reading_run, tallied, Look, DueDo, Operands, next_do, operands, IsOperation, Operation, operation, do_planned, do_turned, planned, turned}
+use Rattle.mr_frame.specs.Operations.{finish}
 use Rattle.mr_ast.specs.declared.program.Intrinsic.TheVariants as intrinsic
-use Rattle.mr_value.specs.declared.val.Val.{Val}
-use Rattle.mr_base.specs.Script.{Done, ◌>>=◌, Outcome, Went, Refused, Broken, on, run}
-use Rattle.mr_base.proofs.ScriptRuns.{run_bind}
-use Rattle.mr_eval.specs.MemoryQueries.{reading_part}
-use Rattle.mr_eval.specs.Reads.{Seen}
-use Rattle.mr_eval.specs.Tally.{seen_of, with_seen}
-use Rattle.mr_frame.specs.PlanMachine.{Goes, Plan, needs_of}
-use Rattle.mr_frame.specs.PlanNotes.{Notes}
-use Rattle.mr_frame.specs.PlanQueries.{Shared, StepScript, answer}
-use Rattle.mr_frame.proofs.PlanReadingRuns.{memory_then, moved_to, on_then, reading_run, tallied}
 use Rattle.mr_frame.specs.Effects.{argued, finished as ended}
-use Rattle.mr_frame.specs.Frames.{Look}
-use Rattle.mr_frame.specs.Operations.{DueDo, Operands, finish, next_do, operands}
-use Rattle.mr_intr.specs.Effects.{IsOperation}
-use Rattle.mr_intr.specs.Operations.{Operation, operation}
 use Rattle.mr_start.specs.Steps.{Own, finished, finishing, operated, own_step, planned as plan_behind, step_due, with_stack}
-use Rattle.mr_turn.specs.Doing.{do_planned, do_turned}
-use Rattle.mr_turn.specs.Turning.{planned, turned}
 
 -- ---- what the intrinsic is given
 

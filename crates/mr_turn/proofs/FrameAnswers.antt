@@ -1,37 +1,16 @@
 -- What the code of a frame's turn answers, by its parts.
-use Rattle.std.proofs.Common.{◌≡◌, ℕ, refl, sym, ap, ◌∙◌, subst, List, [], Option, None, Result, Ok, Err}
-use Rattle.mr_base.specs.Stops.{stop_with}
+use Rattle.mr_turn.proofs.Common.{◌≡◌, ℕ, refl, sym, ap, ◌∙◌, subst, List, [], Option, None, Result, Ok, Err, stop_with, Reason, Memory, ranges_of, Ask, Outcome, Went, Refused, Broken, run, Tables, MemoryScript, Seen, reading, Tally, seen_of, seen, TellsBy, tally_of, Scene, needs_fault, picks_fault, Plan, Notes, Shared, nothing_seen, Look, Onward, Stack, look_of, stack_of, next_do, frame_plan, Turn, Deed, TurnFault, DeedAnswer, IsJudged, JudgeAnswer, TurnAnswer, asks_break, begun, breaks, fault_from, own_of}
 use Rattle.mr_base.specs.declared.reached.Reached.{Reached}
-use Rattle.mr_base.specs.declared.reason.Reason.{Reason}
-use Rattle.mr_mem.specs.Memory.{Memory, ranges_of}
+use Rattle.mr_eval.specs.Tally.{start_tally}
+use Rattle.mr_frame.specs.PlanLegal.{Fault}
+use Rattle.mr_frame.specs.PlanMachine.{Needs}
+use Rattle.mr_frame.specs.Acting.{IsQuiet}
 use Rattle.mr_mem.specs.declared.fault.Fault.{Fault as MemoryFault}
 use Rattle.mr_mem.specs.declared.fault.Fault.TheVariants as memory_fault
-use Rattle.mr_sched.specs.declared.schedule.Ask.{Ask}
-use Rattle.mr_base.specs.Script.{Outcome, Went, Refused, Broken, run}
-use Rattle.mr_sync.specs.Tables.{Tables}
-use Rattle.mr_eval.specs.MemoryQueries.{MemoryScript}
-use Rattle.mr_eval.specs.Reads.{Seen, reading}
-use Rattle.mr_eval.specs.Tally.{Tally, seen_of, start_tally}
-use Rattle.mr_eval.specs.Answers.{seen}
-use Rattle.mr_eval.specs.World.{TellsBy, tally_of}
-use Rattle.mr_eval.specs.declared.scene.Scene.{Scene}
-use Rattle.mr_frame.specs.PlanLegal.{Fault, needs_fault, picks_fault}
-use Rattle.mr_frame.specs.PlanMachine.{Needs, Plan}
-use Rattle.mr_frame.specs.PlanNotes.{Notes}
-use Rattle.mr_frame.specs.PlanQueries.{Shared}
-use Rattle.mr_frame.specs.Acting.{IsQuiet, nothing_seen}
 use Rattle.mr_frame.specs.Effects.{asked, asks_of, planned as frame_planned}
-use Rattle.mr_frame.specs.Frames.{Look, Onward, Stack}
-use Rattle.mr_frame.specs.Kept.{look_of, stack_of}
-use Rattle.mr_frame.specs.Operations.{next_do}
-use Rattle.mr_frame.specs.Steps.{frame_plan}
 use Rattle.mr_frame.specs.declared.look.Look.{Look as KeptLook}
 use Rattle.mr_frame.specs.declared.stack.Stack.{Stack as KeptStack}
-use Rattle.mr_start.specs.Steps.{Turn}
-use Rattle.mr_turn.specs.declared.deed.Deed.{Deed}
-use Rattle.mr_turn.specs.declared.deed.TurnFault.{TurnFault}
 use Rattle.mr_turn.specs.declared.deed.TurnFault.TheVariants as answer
-use Rattle.mr_turn.specs.Turning.{DeedAnswer, IsJudged, JudgeAnswer, TurnAnswer, asks_break, begun, breaks, fault_from, own_of}
 use Rattle.mr_turn.proofs.FrameTurns.{frame_needs}
 use Rattle.mr_turn.proofs.PlanAsks.{AreAddresses, IsPlain, WentSo, frame_plain, led, same_statuses}
 

@@ -1,31 +1,14 @@
 -- The turn of a thread whose next step is no intrinsic: what it needs, and what it comes to, by what the frame's step comes to.
-use Rattle.std.proofs.Common.{◌≡◌, ℕ, refl, sym, ap, ap₂, ◌∙◌, List, [], Option, None, true, false}
-use Rattle.std.specs.Option.{option_map}
-use Rattle.mr_base.specs.Stops.{Stop}
-use Rattle.mr_mem.specs.Memory.{Memory}
-use Rattle.mr_base.specs.Script.{Done, ◌>>=◌, Outcome, Went, Refused, Broken, on, run}
-use Rattle.mr_base.proofs.ScriptRuns.{run_bind}
-use Rattle.mr_sync.specs.Tables.{Tables, ended}
-use Rattle.mr_eval.specs.MemoryQueries.{MemoryScript, memory_answer, reading_part}
-use Rattle.mr_eval.specs.Reads.{Seen, reading}
-use Rattle.mr_eval.specs.Tally.{Tally, seen_of, with_seen}
-use Rattle.mr_eval.specs.World.{world_of}
-use Rattle.mr_eval.specs.declared.scene.Scene.{Scene}
-use Rattle.mr_frame.specs.PlanMachine.{CreatesNothing, Plan, needs_of}
-use Rattle.mr_frame.specs.PlanNotes.{Notes}
-use Rattle.mr_frame.specs.PlanQueries.{Shared, answer, memory_part, with_tables}
-use Rattle.mr_frame.proofs.PlanReadingRuns.{memory_then, moved_to, on_then, reading_run, reading_then, tallied}
+use Rattle.mr_turn.proofs.Common.{◌≡◌, ℕ, refl, sym, ap, ap₂, ◌∙◌, List, [], Option, None, true, false, option_map, Stop, Memory, Done, ◌>>=◌, Outcome, Went, Refused, Broken, on, run, run_bind, Tables, MemoryScript, memory_answer, reading_part, Seen, reading, Tally, seen_of, with_seen, world_of, Scene, CreatesNothing, Plan, needs_of, Notes, Shared, answer, with_tables, memory_then, moved_to, on_then, reading_run, tallied, Look, Onward, onward_of, stack_of, DueDo, next_do, frame_plan, Own, Turn, Deed, Turned, begun, is_end, own_of, planned, printed_lines, shared_in, turn_by, turned}
+use Rattle.mr_sync.specs.Tables.{ended}
+use Rattle.mr_frame.specs.PlanQueries.{memory_part}
+use Rattle.mr_frame.proofs.PlanReadingRuns.{reading_then}
 use Rattle.mr_frame.specs.declared.flow.Flow.{Flow}
+use Rattle.mr_start.specs.Steps.{in_step, onward, own_step, step_due}
+use Rattle.mr_turn.specs.Turning.{IsFlow}
 use Rattle.mr_frame.specs.declared.flow.Flow.TheVariants as flow
 use Rattle.mr_frame.specs.declared.stack.Stack.{Stack as KeptStack}
 use Rattle.mr_frame.specs.Effects.{acted, asked, asks_of, planned as frame_planned}
-use Rattle.mr_frame.specs.Frames.{Look, Onward}
-use Rattle.mr_frame.specs.Kept.{onward_of, stack_of}
-use Rattle.mr_frame.specs.Operations.{DueDo, next_do}
-use Rattle.mr_frame.specs.Steps.{frame_plan}
-use Rattle.mr_start.specs.Steps.{Own, Turn, in_step, onward, own_step, step_due}
-use Rattle.mr_turn.specs.declared.deed.Deed.{Deed}
-use Rattle.mr_turn.specs.Turning.{IsFlow, Turned, begun, is_end, own_of, planned, printed_lines, shared_in, turn_by, turned}
 use Rattle.mr_turn.proofs.PlanAsks.{IsPlain, WentSo, frame_plain, led}
 
 module _ (look : Look) (own : Own) (none : next_do look own.stack ≡ None) (w : Shared × Notes) where

@@ -1,5 +1,6 @@
 pub mod AskAnswers
 pub mod CarryAnswers
+mod Common
 pub mod DoAnswers
 pub mod DoTurns
 pub mod FrameAnswers

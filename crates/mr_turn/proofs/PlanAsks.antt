@@ -1,35 +1,26 @@
 -- The plan of a frame's step creates nothing and asks for addresses alone.
-use Rattle.std.proofs.Common.{◌≡◌, ℕ, ◌+◌, refl, ap, List, [], ◌∷◌, Bool, true, false, Option, Some, None, sym, subst}
-use Rattle.std.specs.Prelude.{slice_get, if◌then◌else◌}
-use Rattle.mr_base.specs.Stops.{plainly}
+use Rattle.mr_turn.proofs.Common.{◌≡◌, ℕ, refl, ap, List, [], ◌∷◌, Bool, true, false, Option, Some, None, sym, subst, slice_get, if◌then◌else◌, plainly, Function, Ty, Pointer, SignatureMismatch, Memory, Ask, Address, Val, MemoryScript, Seen, reading, else_fault, picks_fault, CreatesNothing, Plan, both_there, callee_of, enter, kept_types, same_types, storage_asks, Look, Onward, Stack, frame_plan}
+use Rattle.std.proofs.Common.{◌+◌}
 use Rattle.mr_ast.specs.declared.expr.Place.{Place}
 use Rattle.mr_ast.specs.declared.expr.Value.{Value}
-use Rattle.mr_ast.specs.declared.program.Function.{Function}
 use Rattle.mr_ast.specs.declared.program.Local.{Local}
 use Rattle.mr_ast.specs.declared.program.Stmt.{Stmt}
 use Rattle.mr_ast.specs.declared.program.Term.{Term}
-use Rattle.mr_ast.specs.declared.program.Term.TheVariants as term
-use Rattle.mr_ast.specs.declared.types.Ty.{Ty}
-use Rattle.mr_base.specs.declared.byte.Pointer.{Pointer}
-use Rattle.mr_base.specs.declared.reason.Reason.TheVariants.{SignatureMismatch}
 use Rattle.mr_base.specs.declared.thread.Status.{Status}
-use Rattle.mr_mem.specs.Memory.{Memory, Ranges, range_fault, with_range}
-use Rattle.mr_sched.specs.declared.schedule.Ask.{Ask}
-use Rattle.mr_sched.specs.declared.schedule.Ask.TheVariants.{Address, Waiter}
-use Rattle.mr_value.specs.declared.val.Val.{Val}
-use Rattle.mr_base.specs.Script.{Done, Undefined, IllFormed, Ask as Asks, ◌>>=◌, Outcome, Went, Refused, Broken, on, run}
+use Rattle.mr_mem.specs.Memory.{Ranges, range_fault, with_range}
+use Rattle.mr_sched.specs.declared.schedule.Ask.TheVariants.{Waiter}
 use Rattle.mr_eval.specs.Evaluation.{place_script, value_script, values_script}
-use Rattle.mr_eval.specs.MemoryQueries.{MemoryScript}
 use Rattle.mr_eval.specs.Operators.{pointer_of_value}
-use Rattle.mr_eval.specs.Reads.{ReadScript, Seen, reading}
-use Rattle.mr_frame.specs.PlanLegal.{address_fault, else_fault, picks_fault}
-use Rattle.mr_frame.specs.PlanMachine.{CreatesNothing, Plan}
-use Rattle.mr_frame.specs.Calls.{both_there, call, call_function, call_number, call_plan, callee_of, enter, calling, given_types, kept_types, same_types, storage_asks}
-use Rattle.mr_frame.specs.Frames.{GoesOn, Look, Onward, Stack, scene_in}
+use Rattle.mr_eval.specs.Reads.{ReadScript}
+use Rattle.mr_frame.specs.PlanLegal.{address_fault}
+use Rattle.mr_frame.specs.Calls.{call, call_function, call_number, call_plan, calling, given_types}
+use Rattle.mr_frame.specs.Frames.{GoesOn, scene_in}
 use Rattle.mr_frame.specs.Sites.{AtDo, AtStatement, AtTerminator, Due, Site, due_of, site_of}
-use Rattle.mr_frame.specs.Steps.{frame_plan, live, plan_at, plan_due, statement, terminator}
+use Rattle.mr_frame.specs.Steps.{live, plan_at, plan_due, statement, terminator}
 use Rattle.mr_frame.proofs.StorageSteps.{Leads}
 use Rattle.mr_frame.proofs.Statements.{by_kind, changes}
+use Rattle.mr_ast.specs.declared.program.Term.TheVariants as term
+use Rattle.mr_base.specs.Script.{Done, Undefined, IllFormed, Ask as Asks, ◌>>=◌, Outcome, Went, Refused, Broken, on, run}
 
 -- addresses alone
 abbrev pub AreAddresses : List Ask → Type 0

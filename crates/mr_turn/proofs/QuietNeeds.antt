@@ -1,30 +1,12 @@
 -- An intrinsic that asks for nothing, whatever it is given.
-use Rattle.std.proofs.Common.{◌≡◌, ◌≢◌, ℕ, refl, sym, ap, ◌∙◌, subst, List, [], false, true, true≢false, Some, None, Bool}
-use Rattle.mr_ast.specs.declared.program.Intrinsic.{Intrinsic}
-use Rattle.mr_ast.specs.declared.program.Intrinsic.TheVariants as intrinsic
-use Rattle.mr_mem.specs.Memory.{Memory}
-use Rattle.mr_base.specs.Script.{Outcome, Went, Refused, Broken, on}
-use Rattle.mr_sync.specs.Tables.{Tables}
-use Rattle.mr_eval.specs.Reads.{Seen}
-use Rattle.mr_frame.specs.PlanMachine.{needs_of, no_needs}
-use Rattle.mr_frame.specs.PlanNotes.{Notes}
-use Rattle.mr_frame.specs.PlanQueries.{Shared}
-use Rattle.mr_frame.specs.Operations.{DueDo, Operands, OperandsFit, next_do}
-use Rattle.mr_frame.specs.Acting.{nothing_seen}
-use Rattle.mr_frame.specs.Effects.{argued}
+use Rattle.mr_turn.proofs.Common.{◌≡◌, ℕ, refl, sym, ap, ◌∙◌, subst, List, [], false, true, Some, None, Bool, Intrinsic, Memory, Outcome, Went, Refused, Broken, on, Tables, Seen, needs_of, no_needs, Notes, Shared, DueDo, Operands, OperandsFit, next_do, nothing_seen, argued, Look, IsReady, look_of, stack_of, Fits, IsOperation, shared_of, TellsNeeds, Own, may_ask, step_needs, do_planned, own_of}
+use Rattle.std.proofs.Common.{◌≢◌, true≢false}
 use Rattle.mr_frame.specs.Fits.{FitsStack}
-use Rattle.mr_frame.specs.Frames.{Look}
-use Rattle.mr_frame.specs.Kept.{IsReady, look_of, stack_of}
-use Rattle.mr_frame.specs.declared.look.Look.{Look as KeptLook}
-use Rattle.mr_frame.specs.declared.stack.Stack.{Stack as KeptStack}
-use Rattle.mr_intr.specs.Effects.{Fits, IsOperation, shared_of}
-use Rattle.mr_intr.specs.Needs.{TellsNeeds}
 use Rattle.mr_intr.specs.declared.need.Creation.TheVariants.{Nothing}
 use Rattle.mr_intr.proofs.NeedLaws.{needs_nothing}
-use Rattle.mr_start.specs.Steps.{Own}
-use Rattle.mr_turn.specs.Asking.{may_ask, step_needs}
-use Rattle.mr_turn.specs.Doing.{do_planned}
-use Rattle.mr_turn.specs.Turning.{own_of}
+use Rattle.mr_ast.specs.declared.program.Intrinsic.TheVariants as intrinsic
+use Rattle.mr_frame.specs.declared.look.Look.{Look as KeptLook}
+use Rattle.mr_frame.specs.declared.stack.Stack.{Stack as KeptStack}
 use Rattle.mr_turn.proofs.AskAnswers.{behind, payload_needs, told_needs, world}
 use Rattle.mr_turn.proofs.DoAnswers.{operands_fit}
 use Rattle.mr_turn.proofs.DoTurns.{argued_planned}

@@ -1,68 +1,43 @@
 -- What the code of a thread's start finds and answers, by its parts.
-use Rattle.std.proofs.Common.{◌≡◌, ℕ, ◌<◌, ◌^◌, refl, sym, ap, ap₂, ◌∙◌, subst, arith, List, [], ◌∷◌, length, drop, take, Bool, true, false, Option, Some, None, Result}
-use Rattle.std.specs.Prelude.{◌-◌, ◌&&◌, nat_lt, slice_get, if◌then◌else◌}
-use Rattle.std.specs.Option.{option_map}
-use Rattle.mr_base.specs.Stops.{Stop}
-use Rattle.mr_ast.specs.declared.program.Function.{Function}
-use Rattle.mr_ast.specs.declared.program.Intrinsic.{Intrinsic}
-use Rattle.mr_ast.specs.declared.program.Intrinsic.TheVariants as intrinsic
+use Rattle.mr_turn.proofs.Common.{◌≡◌, ℕ, refl, sym, ap, ap₂, ◌∙◌, subst, arith, List, [], ◌∷◌, length, Bool, true, false, Option, Some, None, Result, ◌&&◌, slice_get, if◌then◌else◌, option_map, Stop, Function, Intrinsic, Ty, Pointer, ranges_of, Address, Val, Went, Refused, on, run, Tables, spawned, tally_of, world_of, Scene, else_fault, picks_fault, CreatesThread, Goes, Notes, Shared, answer, moved_to, ValueFits, DueDo, Operands, OperandsFit, next_do, callee_of, kept_types, same_types, storage_asks, operands_of, IsReady, look_of, stack_of, DoCall, same_Some, Own, finishing, new_thread, thread_types, Deed, CanEnd, EndAnswer, IsGiven, IsNewThread, do_breaks, do_comes_to, TurnFault, result_fits, DeedAnswer, Does, Turned, asks_break, begun, is_end, own_of, picks_break, printed_lines, shared_in, turn_by}
+use Rattle.std.proofs.Common.{◌<◌, ◌^◌, drop, take}
+use Rattle.std.specs.Prelude.{◌-◌, nat_lt}
 use Rattle.mr_ast.specs.declared.types.IntType.TheVariants.{U32}
-use Rattle.mr_ast.specs.declared.types.Ty.{Ty}
-use Rattle.mr_ast.specs.declared.types.Ty.TheVariants as ty
 use Rattle.mr_base.proofs.Comparisons.{lt_from, lt_test}
-use Rattle.mr_base.specs.declared.byte.Pointer.{Pointer}
 use Rattle.mr_base.specs.declared.thread.Event.TheVariants.{Spawn}
-use Rattle.mr_frame.specs.declared.flow.Flow.TheVariants as flow
 use Rattle.mr_layout.proofs.AlignLaws.{align_raw, align_tuple}
 use Rattle.mr_layout.proofs.SizeLaws.{size_raw, size_tuple}
 use Rattle.mr_layout.specs.Sizes.{align_of, size_of}
-use Rattle.mr_mem.specs.Memory.{ranges_of}
-use Rattle.mr_sched.specs.declared.schedule.Ask.TheVariants.{Address}
-use Rattle.mr_value.specs.declared.val.Val.{Val, out-Val}
-use Rattle.mr_value.specs.declared.val.Val.TheVariants as val
+use Rattle.mr_value.specs.declared.val.Val.{out-Val}
 use Rattle.mr_value.specs.Shape.{has_shape}
 use Rattle.mr_value.proofs.ShapeLaws.{has_int, shape_fn_ptr}
 use Rattle.mr_typing.specs.Intrinsics.{fits_intrinsic, gives}
 use Rattle.mr_typing.specs.Operands.{is_fn_ptr, is_raw}
 use Rattle.mr_typing.proofs.KindLaws.{fn_ptr_is, raw_is}
-use Rattle.mr_base.specs.Script.{Went, Refused, on, run}
-use Rattle.mr_sync.specs.Tables.{Tables, spawned}
 use Rattle.mr_eval.specs.Shapes.{HaveShapes}
-use Rattle.mr_eval.specs.World.{tally_of, world_of}
-use Rattle.mr_eval.specs.declared.scene.Scene.{Scene}
-use Rattle.mr_frame.specs.PlanLegal.{creation_fault, else_fault, fault, picks_fault}
-use Rattle.mr_frame.specs.PlanMachine.{CreatesThread, Goes}
-use Rattle.mr_frame.specs.PlanNotes.{Notes}
-use Rattle.mr_frame.specs.PlanQueries.{Shared, answer}
-use Rattle.mr_frame.proofs.PlanReadingRuns.{moved_to}
+use Rattle.mr_frame.specs.PlanLegal.{creation_fault, fault}
 use Rattle.mr_frame.proofs.PlanLegalLaws.{no_faults}
 use Rattle.mr_frame.proofs.CallSafe.{equal_types, kept_there, position_below}
 use Rattle.mr_frame.proofs.Frames.{function_keeps}
-use Rattle.mr_frame.proofs.DoSafe.{ValueFits}
-use Rattle.mr_frame.specs.Operations.{DueDo, Operands, OperandsFit, next_do}
 use Rattle.mr_frame.specs.Beginning.{CanBegin, IsBottom}
-use Rattle.mr_frame.specs.Calls.{behind_first, callee_of, kept_types, same_types, storage_asks}
-use Rattle.mr_frame.specs.Doing.{operands_of}
-use Rattle.mr_frame.specs.Effects.{entered, finished as ended}
-use Rattle.mr_frame.specs.Kept.{IsReady, look_of, stack_of}
-use Rattle.mr_frame.specs.declared.dos.DoCall.{DoCall}
-use Rattle.mr_frame.specs.declared.look.Look.{Look as KeptLook}
-use Rattle.mr_frame.specs.declared.stack.Stack.{Stack as KeptStack}
+use Rattle.mr_frame.specs.Calls.{behind_first}
 use Rattle.mr_intr.proofs.OperationSafe.{result_is}
-use Rattle.std.proofs.lemmas.Option.{same_Some}
 use Rattle.std.proofs.lemmas.Bool.{and_parts}
-use Rattle.mr_turn.proofs.PlanAsks.{same_statuses}
-use Rattle.mr_start.specs.Steps.{Own, finishing, new_thread, thread_types, with_stack}
-use Rattle.mr_turn.specs.declared.deed.Deed.{Deed}
-use Rattle.mr_turn.specs.Doing.{CanEnd, EndAnswer, IsGiven, IsNewThread, IsStart, SpawnGiven, SpawnsFunction, StandsFor, StartsThread, do_breaks, do_comes_to}
-use Rattle.mr_turn.specs.declared.deed.TurnFault.{TurnFault}
-use Rattle.mr_turn.proofs.DoAnswers.{end_is_deed}
-use Rattle.mr_frame.proofs.ResultFits.{result_fits}
-use Rattle.mr_turn.specs.Turning.{DeedAnswer, Does, Turned, asks_break, begun, is_end, own_of, picks_break, printed_lines, shared_in, turn_by}
-use Rattle.mr_turn.proofs.DoTurns.{finishing_run}
-use Rattle.mr_turn.proofs.SpawnTurns.{start_planned, start_turned, with_thread}
+use Rattle.mr_start.specs.Steps.{with_stack}
+use Rattle.mr_turn.specs.Doing.{IsStart, SpawnGiven, SpawnsFunction, StandsFor, StartsThread}
 use Rattle.mr_base.proofs.Lists.{item_there}
 use Rattle.mr_eval.specs.Operators.{pointer_in}
+use Rattle.mr_ast.specs.declared.program.Intrinsic.TheVariants as intrinsic
+use Rattle.mr_ast.specs.declared.types.Ty.TheVariants as ty
+use Rattle.mr_frame.specs.declared.flow.Flow.TheVariants as flow
+use Rattle.mr_value.specs.declared.val.Val.TheVariants as val
+use Rattle.mr_frame.specs.Effects.{entered, finished as ended}
+use Rattle.mr_frame.specs.declared.look.Look.{Look as KeptLook}
+use Rattle.mr_frame.specs.declared.stack.Stack.{Stack as KeptStack}
+use Rattle.mr_turn.proofs.PlanAsks.{same_statuses}
+use Rattle.mr_turn.proofs.DoAnswers.{end_is_deed}
+use Rattle.mr_turn.proofs.DoTurns.{finishing_run}
+use Rattle.mr_turn.proofs.SpawnTurns.{start_planned, start_turned, with_thread}
 use Rattle.mr_sched.specs.declared.rule.ScheduleRule.TheVariants as rule
 
 -- there are fewer than 1,024 threads

@@ -1,30 +1,14 @@
 -- The turn of a thread that starts another one, by the function that it calls and the frame with which that begins.
-use Rattle.std.proofs.Common.{◌≡◌, ℕ, ap, ◌∙◌, List, [], ◌∷◌, length, Some, None, Bool, true, false}
-use Rattle.std.specs.Prelude.{slice_get, if◌then◌else◌}
-use Rattle.mr_base.specs.Stops.{plainly}
-use Rattle.mr_ast.specs.declared.program.Function.{Function}
-use Rattle.mr_ast.specs.declared.program.Intrinsic.{Intrinsic}
-use Rattle.mr_ast.specs.declared.program.Intrinsic.TheVariants as intrinsic
-use Rattle.mr_ast.specs.declared.types.Ty.{Ty}
-use Rattle.mr_base.specs.declared.byte.Pointer.{Pointer}
-use Rattle.mr_base.specs.declared.reason.Reason.TheVariants.{NotAFunction, SignatureMismatch}
+use Rattle.mr_turn.proofs.Common.{◌≡◌, ℕ, ap, ◌∙◌, List, [], ◌∷◌, length, Some, None, Bool, true, false, slice_get, if◌then◌else◌, plainly, Function, Intrinsic, Ty, Pointer, NotAFunction, SignatureMismatch, Val, Done, Undefined, ◌>>=◌, Went, Refused, on, run, spawned, CreatesThread, Plan, Notes, Shared, StepScript, answer, with_tables, memory_then, moved_to, callee_of, enter, kept_types, same_types, storage_asks, Look, DueDo, Operands, Own, Turn, finishing, new_thread, operated, thread_types, do_planned, do_turned}
 use Rattle.mr_base.specs.declared.thread.Event.TheVariants.{Spawn}
-use Rattle.mr_value.specs.declared.val.Val.{Val}
-use Rattle.mr_value.specs.declared.val.Val.TheVariants as val
-use Rattle.mr_base.specs.Script.{Done, Undefined, Ask, ◌>>=◌, Went, Refused, on, run}
-use Rattle.mr_sync.specs.Tables.{spawned}
-use Rattle.mr_frame.specs.PlanMachine.{CreatesThread, Plan}
-use Rattle.mr_frame.specs.PlanNotes.{Notes}
-use Rattle.mr_frame.specs.PlanQueries.{Shared, Start, StepScript, answer, note, tables_of, with_tables, woke}
-use Rattle.mr_frame.proofs.PlanReadingRuns.{memory_then, moved_to}
-use Rattle.mr_frame.specs.Calls.{callee_of, enter, kept_types, same_types, storage_asks}
+use Rattle.mr_base.specs.Script.{Ask}
+use Rattle.mr_frame.specs.PlanQueries.{Start, note, tables_of, woke}
 use Rattle.mr_frame.specs.Effects.{entered}
-use Rattle.mr_frame.specs.Frames.{Look}
-use Rattle.mr_frame.specs.Operations.{DueDo, Operands}
 use Rattle.mr_intr.specs.Operations.{found}
-use Rattle.mr_start.specs.Steps.{Own, Turn, finishing, new_thread, operated, spawn, spawn_function, spawn_number, spawn_types, start, thread_types}
-use Rattle.mr_turn.specs.Doing.{do_planned, do_turned}
+use Rattle.mr_start.specs.Steps.{spawn, spawn_function, spawn_number, spawn_types, start}
 use Rattle.mr_eval.specs.Operators.{pointer_in}
+use Rattle.mr_ast.specs.declared.program.Intrinsic.TheVariants as intrinsic
+use Rattle.mr_value.specs.declared.val.Val.TheVariants as val
 
 module _ (look : Look) (own : Own) (d : DueDo) (o : Operands) (is : d.op ≡ intrinsic.Spawn) (c : Pointer) (argument : Val) (args : o.args ≡ val.Ptr c ∷ argument ∷ []) (w : Shared × Notes) where
   script_is : operated look own d o d.op ≡ spawn_number look own d o argument (callee_of look.functions c)

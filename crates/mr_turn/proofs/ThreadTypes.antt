@@ -1,15 +1,10 @@
 -- The types of a function with which a thread may begin.
-use Rattle.std.proofs.Common.{◌≡◌, ℕ, suc, refl, sym, ap, ◌∙◌, arith, List, [], ◌∷◌, length, map, Bool, true, false, Option, Some, None}
+use Rattle.mr_turn.proofs.Common.{◌≡◌, ℕ, refl, sym, ap, ◌∙◌, arith, List, [], ◌∷◌, length, Bool, true, false, Option, Some, None, same_Some, ◌&&◌, option_map, Function, Ty, both_there, kept_types, same_types, thread_types}
+use Rattle.std.proofs.Common.{suc, map}
 use Rattle.std.proofs.lemmas.List.{length-map}
-use Rattle.std.proofs.lemmas.Option.{same_Some}
-use Rattle.std.specs.Prelude.{◌&&◌}
-use Rattle.std.specs.Option.{option_map}
-use Rattle.mr_ast.specs.declared.program.Function.{Function}
-use Rattle.mr_ast.specs.declared.types.Ty.{Ty}
-use Rattle.mr_ast.specs.declared.types.Ty.TheVariants as ty
 use Rattle.mr_typing.specs.SameTypes.{same_type}
-use Rattle.mr_frame.specs.Calls.{all_there, both_there, kept_types, local_type, same_types}
-use Rattle.mr_start.specs.Steps.{thread_types}
+use Rattle.mr_frame.specs.Calls.{all_there, local_type}
+use Rattle.mr_ast.specs.declared.types.Ty.TheVariants as ty
 
 -- ---- as many types as there are
 

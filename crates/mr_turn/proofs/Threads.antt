@@ -1,14 +1,8 @@
 -- A step of a thread stays one of that thread.
-use Rattle.std.proofs.Common.{◌≡◌, ℕ, List, refl, sym, ap, ◌∙◌}
-use Rattle.mr_mem.specs.Memory.{Memory}
-use Rattle.mr_base.specs.Script.{Done, Undefined, IllFormed, Ask, ◌>>=◌, Outcome, Went, Refused, Broken, on, run}
+use Rattle.mr_turn.proofs.Common.{◌≡◌, ℕ, List, refl, sym, ap, ◌∙◌, Memory, Done, Undefined, ◌>>=◌, Outcome, Went, Refused, Broken, on, run, MemoryScript, memory_answer, reading_part, Tally, acted, Look, Onward, Stack, frame_plan}
+use Rattle.mr_base.specs.Script.{IllFormed, Ask}
 use Rattle.mr_base.proofs.ScriptSwaps.{same_state}
-use Rattle.mr_eval.specs.MemoryQueries.{MemoryScript, memory_answer, reading_part}
-use Rattle.mr_eval.specs.Tally.{Tally}
 use Rattle.mr_frame.proofs.PlanTallyGrows.{tally_grows}
-use Rattle.mr_frame.specs.Effects.{acted}
-use Rattle.mr_frame.specs.Frames.{Look, Onward, Stack}
-use Rattle.mr_frame.specs.Steps.{frame_plan}
 
 -- behind an answer that keeps it
 answered : {R A : Type 0} (w v : Memory × Tally) (x : A) (o : Outcome R (Memory × Tally)) (f : R → Memory × Tally → Outcome A (Memory × Tally))

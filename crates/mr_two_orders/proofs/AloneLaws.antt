@@ -1,13 +1,7 @@
 -- A group of the machine's list, by what is counted of Rust's at its places.
-use Rattle.std.proofs.Common.{◌≡◌, ℕ, ◌<◌, ◌≤◌, arith, List, [], ◌++◌, sym, ap, ◌∙◌, append-nil}
-use Rattle.std.proofs.lemmas.Bool.{eq-eqb, ne_eqb}
-use Rattle.std.specs.Prelude.{◌==◌, if◌then◌else◌, count_by}
-use Rattle.mr_rust_order.specs.Tests.{rust_races}
-use Rattle.mr_listing.specs.declared.pairs.Group.{Group}
-use Rattle.mr_listing.specs.Races.{group_line, same_places}
-use Rattle.mr_listing.specs.Seen.{Seen}
+use Rattle.mr_two_orders.proofs.Common.{◌≡◌, ℕ, ◌<◌, ◌≤◌, arith, List, [], ◌++◌, sym, ap, ◌∙◌, eq-eqb, ne_eqb, ◌==◌, if◌then◌else◌, count_by, rust_races, Group, group_line, same_places, Seen, by_rust, count_in, machine_text}
+use Rattle.std.proofs.Common.{append-nil}
 use Rattle.mr_two_orders.specs.Standing.{machine_line}
-use Rattle.mr_two_orders.specs.Texts.{by_rust, count_in, machine_text}
 
 module _ (s r : Seen) (g : Group) (is : r ≡ by_rust s) (n : ℕ) (count : n ≡ count_by (same_places r g.first) r.races) where
   counted : n ≡ count_in (by_rust s) g

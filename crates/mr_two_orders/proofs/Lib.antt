@@ -1,4 +1,5 @@
 pub mod AloneLaws
+mod Common
 pub mod PairLaws
 pub mod StandingLaws
 pub mod ToldLaws

@@ -1,19 +1,14 @@
 -- The step with which a list of races has a step: how the code finds it, and what it is of the lists of the two orders.
-use Rattle.std.proofs.Common.{◌≡◌, ℕ, zero, suc, ◌+◌, ◌<◌, ◌≤◌, Bool, true, false, cond, arith, List, [], ◌∷◌, length}
-use Rattle.std.proofs.Common.{get_or, refl, sym, ap, ◌∙◌, Option, None, Some}
+use Rattle.mr_two_orders.proofs.Common.{◌≡◌, ℕ, suc, ◌+◌, ◌<◌, ◌≤◌, Bool, true, false, cond, arith, List, [], ◌∷◌, length, get_or, refl, sym, ap, ◌∙◌, Option, None, Some, eq-eqb, ne_eqb, ◌==◌, if◌then◌else◌, nat_lt, slice_get, find, Footprint, Pair, rust_races, IsRising, first_of, partner}
+use Rattle.std.proofs.Common.{zero}
 use native.Mathlib.Decide.{ℕ_discrete}
-use Rattle.std.proofs.lemmas.Bool.{eq-eqb, ltb-false, ltb-true, ne_eqb}
-use Rattle.std.specs.Prelude.{◌==◌, if◌then◌else◌, nat_lt, slice_get}
-use Rattle.std.specs.List.{find}
+use Rattle.std.proofs.lemmas.Bool.{ltb-false, ltb-true}
 use Rattle.std.specs.List.Sorted.{IsNonDecreasingBy}
 use Rattle.std.specs.Option.{option_map}
-use Rattle.mr_event.specs.Footprint.{Footprint}
-use Rattle.mr_event.specs.declared.footprint.Pair.{Pair}
 use Rattle.mr_event.specs.Predicted.{predicted}
 use Rattle.mr_event.proofs.Tests.{predicted_is}
-use Rattle.mr_rust_order.specs.Tests.{rust_races}
 use Rattle.mr_rust_order.proofs.TestLaws.{rust_races_are}
-use Rattle.mr_two_orders.specs.Pairs.{IsRising, first_of, first_step, is_of, partner}
+use Rattle.mr_two_orders.specs.Pairs.{first_step, is_of}
 
 -- ---- a search
 

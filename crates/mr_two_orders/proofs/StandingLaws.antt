@@ -1,24 +1,20 @@
 -- What is said of a race that one list has alone is true of the orders.
-use Rattle.std.proofs.Common.{◌≡◌, ℕ, ◌<◌, ◌≤◌, Bool, true, false, cond, arith, List, [], ◌∷◌, length, get_or, refl, sym}
-use Rattle.std.proofs.Common.{ap, subst, ◌∙◌, inl, inr, Option, None, Some}
+use Rattle.mr_two_orders.proofs.Common.{◌≡◌, ℕ, ◌<◌, ◌≤◌, Bool, true, false, cond, arith, List, [], ◌∷◌, length, get_or, refl, sym, ap, subst, ◌∙◌, inl, inr, Option, None, Some, not, Contains, find, Footprint, Pair, IsRising, partner}
 use Rattle.std.proofs.lemmas.Bool.{both_ways, cases_Bool}
-use Rattle.std.specs.Prelude.{not, Any, IfSome}
-use Rattle.std.specs.List.{Contains, find}
-use Rattle.mr_event.specs.Footprint.{Footprint}
-use Rattle.mr_event.specs.declared.footprint.Pair.{Pair}
+use Rattle.std.specs.Prelude.{Any, IfSome}
 use Rattle.mr_event.specs.Order.{Edge, HappensBefore, IsGreatestPartner, RacePair, Sync}
 use Rattle.mr_event.specs.Predicted.{happens_before, predicted}
 use Rattle.mr_event.proofs.Ordered.{HappensBefore-before}
 use Rattle.mr_event.proofs.Tests.{happens_before_is, predicted_is}
 use Rattle.mr_rust_order.specs.Gaps.{first_gap, is_gap, links}
-use Rattle.mr_rust_order.specs.Order.{HappensBefore as HappensBeforeByRust, IsGreatestRace, IsRace}
 use Rattle.mr_rust_order.specs.Order.Edge.{started}
+use Rattle.mr_picture.specs.Way.{IsWay, way}
+use Rattle.mr_picture.proofs.WayLaws.{way_leads}
+use Rattle.mr_two_orders.specs.Pairs.{IsUnlisted}
+use Rattle.mr_rust_order.specs.Order.{HappensBefore as HappensBeforeByRust, IsGreatestRace, IsRace}
 use Rattle.mr_rust_order.specs.Order.HappensBefore.{edge as by_edge, chain as by_chain}
 use Rattle.mr_rust_order.specs.Tests.{happens_before as before_by_rust, rust_races}
 use Rattle.mr_rust_order.proofs.TestLaws.{happens_before_is as before_by_rust_is, rust_races_are}
-use Rattle.mr_picture.specs.Way.{IsWay, way}
-use Rattle.mr_picture.proofs.WayLaws.{way_leads}
-use Rattle.mr_two_orders.specs.Pairs.{IsRising, IsUnlisted, partner}
 use Rattle.mr_two_orders.proofs.PairLaws.{partner_there, predicted_rises, rust_rises}
 
 -- the step with which a list has a race's second step lies before its first, where the list hasn't the race

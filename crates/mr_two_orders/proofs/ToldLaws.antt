@@ -1,23 +1,19 @@
 -- Each race of either list is of the places of exactly one group that is told.
-use Rattle.std.proofs.Common.{◌≡◌, ◌⊎◌, ℕ, suc, ◌+◌, Bool, true, false, cond, arith, List, [], ◌∷◌, ◌++◌, length}
-use Rattle.std.proofs.Common.{refl, sym, ap, ap₂, inl, inr, ◌∙◌}
-use Rattle.std.proofs.lemmas.Bool.{false≢true, ne_eqb}
+use Rattle.mr_two_orders.proofs.Common.{◌≡◌, ℕ, suc, ◌+◌, Bool, true, false, cond, arith, List, [], ◌∷◌, ◌++◌, length, refl, sym, ap, ap₂, inl, inr, ◌∙◌, ne_eqb, ◌==◌, not, count_by, Contains, Pair, rust_races, Group, ranked, same_places, Seen, by_rust}
+use Rattle.std.proofs.Common.{◌⊎◌}
+use Rattle.std.proofs.lemmas.Bool.{false≢true}
 use Rattle.std.proofs.lemmas.List.{length-append}
 use Rattle.std.proofs.lemmas.List.Elements.{filter-append, filter_agree}
 use Rattle.std.proofs.lemmas.List.Folds.{list_any_at}
 use Rattle.std.proofs.lemmas.List.Sorted.{sum_by-IsPermutation}
 use Rattle.std.proofs.lemmas.List.Sums.{length-filter}
-use Rattle.std.specs.Prelude.{◌&&◌, ◌||◌, ◌==◌, not, count_by}
-use Rattle.std.specs.List.{Contains, filter, list_any}
-use Rattle.mr_event.specs.declared.footprint.Pair.{Pair}
-use Rattle.mr_rust_order.specs.Tests.{rust_races}
-use Rattle.mr_listing.specs.declared.pairs.Group.{Group}
-use Rattle.mr_listing.specs.Races.{groups, is_in_group, ranked, same_places}
-use Rattle.mr_listing.specs.Seen.{Seen}
+use Rattle.std.specs.Prelude.{◌&&◌, ◌||◌}
+use Rattle.std.specs.List.{filter, list_any}
+use Rattle.mr_listing.specs.Races.{groups, is_in_group}
 use Rattle.mr_listing.proofs.GroupLaws.{ranked_permutes}
 use Rattle.mr_listing.proofs.OnceLaws.{any_agrees, groups_at, places_agree, places_itself}
 use Rattle.mr_listing.proofs.PartnerLaws.{filter_twice}
-use Rattle.mr_two_orders.specs.Texts.{by_rust, is_alone, told_groups}
+use Rattle.mr_two_orders.specs.Texts.{is_alone, told_groups}
 
 -- ---- lists
 

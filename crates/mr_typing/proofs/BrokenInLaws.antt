@@ -1,28 +1,11 @@
 -- The equations of `broken_in_place` and `broken_in_value`, one for each kind of place and value.
-use Rattle.std.proofs.Common.{◌≡◌, ℕ, List, [], ◌∷◌, ◌++◌, map, Option, refl, sym, ap, ◌∙◌}
-use Rattle.std.specs.Prelude.{◌&&◌, ◌||◌, is_some}
-use Rattle.std.specs.List.{flat_map}
+use Rattle.mr_typing.proofs.Common.{◌≡◌, ℕ, List, [], ◌∷◌, ◌++◌, map, Option, refl, sym, ap, ◌∙◌, ◌&&◌, ◌||◌, is_some, flat_map, IntType, U64, Num, Ty, FnName, GlobalName, LocalName, UnaryOp, BinaryOp, Place, roll-Place, Value, roll-Value, Place-F, Value-F, map-Place, map-Value, is_fitting, discriminant_type, element_type, field_type, type_of_place, type_of_value, variant_type, fits_binary, fits_parts, fits_unary, fits_union, fits_variant, is_int, is_pointer, is_raw, is_ref, is_scalar_number, same_size, Rules, Surroundings, broken_in_place, broken_in_value, is_in_global, of_type, rule, where_all_typed, where_both_typed, where_typed}
 use Rattle.std.proofs.lemmas.List.Folds.{flat_map-map}
+use Rattle.mr_ast.specs.declared.expr.Place.TheFolds.{para-roll-Place, para-roll-Value}
+use Rattle.mr_typing.specs.Broken.{broken_place_step, broken_value_step}
 use Rattle.mr_ast.specs.declared.rule.Rule.TheVariants as form
-use Rattle.mr_ast.specs.declared.types.IntType.{IntType}
-use Rattle.mr_ast.specs.declared.types.IntType.TheVariants.{U64}
-use Rattle.mr_ast.specs.declared.types.Num.{Num}
-use Rattle.mr_ast.specs.declared.types.Ty.{Ty}
-use Rattle.mr_ast.specs.declared.program.FnName.{FnName}
-use Rattle.mr_ast.specs.declared.program.GlobalName.{GlobalName}
-use Rattle.mr_ast.specs.declared.program.LocalName.{LocalName}
-use Rattle.mr_ast.specs.declared.expr.UnaryOp.{UnaryOp}
-use Rattle.mr_ast.specs.declared.expr.BinaryOp.{BinaryOp}
-use Rattle.mr_ast.specs.declared.expr.Place.{Place, roll-Place}
-use Rattle.mr_ast.specs.declared.expr.Value.{Value, roll-Value}
 use Rattle.mr_ast.specs.declared.expr.Place.TheVariants as place
 use Rattle.mr_ast.specs.declared.expr.Value.TheVariants as value
-use Rattle.mr_ast.specs.declared.expr.Place.TheOpen.{Place-F, Value-F}
-use Rattle.mr_ast.specs.declared.expr.Place.TheFolds.{map-Place, map-Value, para-roll-Place, para-roll-Value}
-use Rattle.mr_ast.specs.Integers.{is_fitting}
-use Rattle.mr_typing.specs.Types.{discriminant_type, element_type, field_type, type_of_place, type_of_value, variant_type}
-use Rattle.mr_typing.specs.Operands.{fits_binary, fits_parts, fits_unary, fits_union, fits_variant, is_int, is_pointer, is_raw, is_ref, is_scalar_number, same_size}
-use Rattle.mr_typing.specs.Broken.{Rules, Surroundings, broken_in_place, broken_in_value, broken_place_step, broken_value_step, is_in_global, of_type, rule, where_all_typed, where_both_typed, where_typed}
 
 module _ (at : Surroundings) where
   abbrev place_with_rules : Place → Place × Rules

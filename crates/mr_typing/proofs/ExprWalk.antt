@@ -1,36 +1,14 @@
 -- The computed walk over a place and a value tells the rules that are broken in it, and its type where none is.
-use Rattle.std.proofs.Common.{◌≡◌, ℕ, Bool, true, List, [], ◌∷◌, ◌++◌, map, length, Option, None, Some, Result, Ok, refl, sym, ap, ap₂, subst, ◌∙◌, zero, suc, append_assoc, arith}
-use Rattle.std.specs.Prelude.{◌&&◌, ◌||◌, is_some, slice_get, nat_lt}
-use Rattle.std.specs.List.{flat_map, list_all}
-use Rattle.std.specs.Option.{option_map}
-use Rattle.std.proofs.lemmas.Bool.Decides.{nat_tests}
-use Rattle.std.proofs.lemmas.Bool.{and_parts}
-use Rattle.mr_ast.specs.declared.rule.Rule.{Rule}
-use Rattle.mr_ast.specs.declared.rule.Rule.TheVariants as form
-use Rattle.mr_ast.specs.declared.types.IntType.{IntType}
-use Rattle.mr_ast.specs.declared.types.IntType.TheVariants.{U64}
-use Rattle.mr_ast.specs.declared.types.Num.{Num}
-use Rattle.mr_ast.specs.declared.types.Ty.{Ty}
-use Rattle.mr_ast.specs.declared.types.Ty.TheVariants as ty
-use Rattle.mr_ast.specs.declared.program.Local.{Local}
-use Rattle.mr_ast.specs.declared.program.LocalName.{LocalName}
-use Rattle.mr_ast.specs.declared.expr.UnaryOp.{UnaryOp}
-use Rattle.mr_ast.specs.declared.expr.BinaryOp.{BinaryOp}
-use Rattle.mr_ast.specs.declared.expr.BinaryOp.TheVariants as binary
-use Rattle.mr_ast.specs.declared.expr.Place.{Place}
-use Rattle.mr_ast.specs.declared.expr.Value.{Value}
-use Rattle.mr_ast.specs.declared.expr.Place.TheVariants as place
-use Rattle.mr_ast.specs.declared.expr.Value.TheVariants as value
-use Rattle.mr_ast.specs.ShapedTypes.{fits_u64, is_shaped_num, is_shaped_type}
-use Rattle.mr_ast.specs.ShapedValues.{Named, is_shaped_place, is_shaped_value}
+use Rattle.mr_typing.proofs.Common.{◌≡◌, ℕ, Bool, true, List, [], ◌∷◌, ◌++◌, map, length, Option, None, Some, Result, Ok, refl, sym, ap, ap₂, subst, ◌∙◌, suc, append_assoc, arith, ◌&&◌, ◌||◌, is_some, slice_get, nat_lt, flat_map, list_all, option_map, nat_tests, and_parts, Rule, IntType, U64, Num, Ty, Local, LocalName, UnaryOp, BinaryOp, Place, Value, fits_u64, is_shaped_num, is_shaped_type, Named, is_shaped_place, is_shaped_value, is_fitting, same_type, chained, discriminant_type, element_type, field_type, integer_of, overflow_type, result_type, type_of_place, type_of_value, variant_type, fits_binary, fits_parts, fits_unary, fits_union, fits_variant, is_int, is_pointer, is_raw, is_ref, is_scalar_number, same_size, Rules, Surroundings, broken_in_place, broken_in_value, is_in_global, of_type, rule, where_all_typed, where_both_typed, where_typed, ◌>>=◌, judged_place, judged_value, judged_values, kept, sound_type, there}
+use Rattle.std.proofs.Common.{zero}
 use Rattle.mr_ast.proofs.ShapedLaws.{shaped_local_place, shaped_deref, shaped_field_place, shaped_index_place, shaped_variant_place, shaped_tuple, shaped_union, shaped_variant, shaped_load, shaped_disc, shaped_addr_of, shaped_cast, shaped_transmute, shaped_unary, shaped_binary}
 use Rattle.mr_ast.proofs.ExprInduction.{AllValues, ExprCases, place_induction, value_induction}
-use Rattle.mr_ast.specs.Integers.{is_fitting}
-use Rattle.mr_typing.specs.SameTypes.{same_type}
-use Rattle.mr_typing.specs.Types.{chained, discriminant_type, element_type, field_type, integer_of, overflow_type, result_type, type_of_place, type_of_value, variant_type}
-use Rattle.mr_typing.specs.Operands.{fits_binary, fits_parts, fits_unary, fits_union, fits_variant, is_int, is_integer, is_pointer, is_raw, is_ref, is_scalar_number, same_size}
-use Rattle.mr_typing.specs.Broken.{Rules, Surroundings, broken_in_place, broken_in_value, is_in_global, of_type, rule, where_all_typed, where_both_typed, where_typed}
-use Rattle.mr_typing.specs.Judging.{◌>>=◌, judged_place, judged_value, judged_values, kept, sound_type, there}
+use Rattle.mr_typing.specs.Operands.{is_integer}
+use Rattle.mr_ast.specs.declared.rule.Rule.TheVariants as form
+use Rattle.mr_ast.specs.declared.types.Ty.TheVariants as ty
+use Rattle.mr_ast.specs.declared.expr.BinaryOp.TheVariants as binary
+use Rattle.mr_ast.specs.declared.expr.Place.TheVariants as place
+use Rattle.mr_ast.specs.declared.expr.Value.TheVariants as value
 use Rattle.mr_typing.proofs.Tells.{Any, Tells, tells_kept_there, tells_map, tells_right, tells_rule, tells_same, tells_then, tells_there, tells_there_kept, tells_type, tells_typed}
 use Rattle.mr_typing.proofs.JudgedLaws.{judged_local, judged_deref, judged_field, judged_index, judged_variant_place, judged_int, judged_true, judged_false, judged_raw, judged_fn, judged_global, judged_tuple, judged_union, judged_variant, judged_load, judged_disc, judged_addr_of, judged_cast, judged_transmute, judged_unary, judged_binary}
 use Rattle.mr_typing.proofs.TypeLaws.{type_of_local, type_of_deref, type_of_field, type_of_index, type_of_variant_place, type_of_int, type_of_true, type_of_false, type_of_raw, type_of_fn, type_of_global, type_of_tuple, type_of_union, type_of_variant, type_of_load, type_of_disc, type_of_addr_of, type_of_cast, type_of_transmute, type_of_unary, type_of_binary}

@@ -1,31 +1,10 @@
 -- The equations of `judged_place` and `judged_value`, one for each kind of place and value.
-use Rattle.std.proofs.Common.{◌≡◌, ℕ, List, [], ◌∷◌, map, refl, sym, ap, ◌∙◌}
-use Rattle.std.specs.Prelude.{◌||◌, Option, None, Some, Result, Ok, slice_get}
-use Rattle.std.specs.Option.{option_map}
-use Rattle.mr_ast.specs.declared.rule.Rule.{Rule}
+use Rattle.mr_typing.proofs.Common.{◌≡◌, ℕ, List, [], ◌∷◌, map, refl, sym, ap, ◌∙◌, ◌||◌, Option, None, Some, Result, Ok, slice_get, option_map, Rule, IntType, U64, Num, Ty, FnName, GlobalName, Local, LocalName, UnaryOp, BinaryOp, Place, roll-Place, Value, roll-Value, Place-F, Value-F, map-Place, map-Value, fold-roll-Place, fold-roll-Value, is_fitting, discriminant_type, element_type, field_type, result_type, variant_type, fits_binary, fits_parts, fits_unary, fits_union, fits_variant, is_int, is_pointer, is_raw, is_ref, is_scalar_number, same_size, Surroundings, is_in_global, ◌>>=◌, judged_place, judged_value, judged_values, kept, sound_type, there}
+use Rattle.mr_typing.specs.Judging.{all_judged, judged_place_step, judged_value_step}
 use Rattle.mr_ast.specs.declared.rule.Rule.TheVariants as form
-use Rattle.mr_ast.specs.declared.types.IntType.{IntType}
-use Rattle.mr_ast.specs.declared.types.IntType.TheVariants.{U64}
-use Rattle.mr_ast.specs.declared.types.Num.{Num}
-use Rattle.mr_ast.specs.declared.types.Ty.{Ty}
 use Rattle.mr_ast.specs.declared.types.Ty.TheVariants as ty
-use Rattle.mr_ast.specs.declared.program.FnName.{FnName}
-use Rattle.mr_ast.specs.declared.program.GlobalName.{GlobalName}
-use Rattle.mr_ast.specs.declared.program.Local.{Local}
-use Rattle.mr_ast.specs.declared.program.LocalName.{LocalName}
-use Rattle.mr_ast.specs.declared.expr.UnaryOp.{UnaryOp}
-use Rattle.mr_ast.specs.declared.expr.BinaryOp.{BinaryOp}
-use Rattle.mr_ast.specs.declared.expr.Place.{Place, roll-Place}
-use Rattle.mr_ast.specs.declared.expr.Value.{Value, roll-Value}
 use Rattle.mr_ast.specs.declared.expr.Place.TheVariants as place
 use Rattle.mr_ast.specs.declared.expr.Value.TheVariants as value
-use Rattle.mr_ast.specs.declared.expr.Place.TheOpen.{Place-F, Value-F}
-use Rattle.mr_ast.specs.declared.expr.Place.TheFolds.{map-Place, map-Value, fold-roll-Place, fold-roll-Value}
-use Rattle.mr_ast.specs.Integers.{is_fitting}
-use Rattle.mr_typing.specs.Types.{discriminant_type, element_type, field_type, result_type, variant_type}
-use Rattle.mr_typing.specs.Operands.{fits_binary, fits_parts, fits_unary, fits_union, fits_variant, is_int, is_pointer, is_raw, is_ref, is_scalar_number, same_size}
-use Rattle.mr_typing.specs.Broken.{Surroundings, is_in_global}
-use Rattle.mr_typing.specs.Judging.{◌>>=◌, all_judged, judged_place, judged_place_step, judged_value, judged_value_step, judged_values, kept, sound_type, there}
 
 abbrev Answer : Type 0
 Answer = Result Ty Rule

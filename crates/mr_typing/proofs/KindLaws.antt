@@ -1,15 +1,7 @@
 -- Which type a kind of type is, and what it means to be written as a type that has no parts.
-use Rattle.std.proofs.Common.{◌≡◌, ◌↔◌, Bool, true, Some, refl, sym, ap, subst, ◌∙◌}
-use Rattle.std.proofs.lemmas.Bool.Decides.{same_from_decides}
-use Rattle.mr_ast.specs.declared.types.IntType.{IntType}
-use Rattle.mr_ast.specs.declared.types.Ty.{Ty, roll-Ty, out-Ty}
+use Rattle.mr_typing.proofs.Common.{◌≡◌, ◌↔◌, Bool, true, Some, refl, sym, ap, subst, ◌∙◌, same_from_decides, IntType, Ty, roll-Ty, out-Ty, Ty-F, Variant, same_type, integer_in, integer_of, is_bool, is_bool_layer, is_fn_ptr, is_raw, type_made}
+use Rattle.mr_typing.specs.Operands.{is_fn_ptr_layer, is_raw_layer}
 use Rattle.mr_ast.specs.declared.types.Ty.TheVariants as ty
-use Rattle.mr_ast.specs.declared.types.Ty.TheOpen.{Ty-F}
-use Rattle.mr_ast.specs.declared.types.Variant.{Variant}
-use Rattle.mr_typing.specs.SameTypes.{same_type}
-use Rattle.mr_typing.specs.Types.{integer_in, integer_of}
-use Rattle.mr_typing.specs.Operands.{is_bool, is_bool_layer, is_fn_ptr, is_fn_ptr_layer, is_raw, is_raw_layer}
-use Rattle.mr_ast.proofs.TypeInduction.{type_made}
 use Rattle.mr_typing.proofs.SameTypeLaws.{same_type_equal, same_type_itself}
 
 -- ---- a type of a kind

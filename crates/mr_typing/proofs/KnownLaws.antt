@@ -1,24 +1,13 @@
 -- What is known of a type, told by tests of its kind, against what is written alike.
-use Rattle.std.proofs.Common.{◌≡◌, ◌↔◌, ℕ, ◌*◌, Bool, true, false, IsTrue, List, [], ◌∷◌, Option, Some, None, sym, ap, ap₂, ◌∙◌}
-use Rattle.std.specs.Prelude.{◌&&◌, ◌==◌}
+use Rattle.mr_typing.proofs.Common.{◌≡◌, ◌↔◌, ℕ, ◌*◌, Bool, true, false, IsTrue, List, [], ◌∷◌, Option, Some, None, sym, ap, ap₂, ◌∙◌, ◌&&◌, ◌==◌, and_parts, same_from_decides, IntType, Ty, out-Ty, roll-Ty, Ty-F, Variant, int_size, same_type, integer_in, integer_of, overflow_type, is_bool, is_bool_layer, is_fn_ptr, is_raw, type_made}
 use Rattle.std.specs.Cmp.Derive.{both_true}
-use Rattle.std.proofs.lemmas.Bool.{false≢true, and_parts}
-use Rattle.std.proofs.lemmas.Bool.Decides.{same_from_decides}
+use Rattle.std.proofs.lemmas.Bool.{false≢true}
 use Rattle.std.proofs.lemmas.Option.{none-some, same_Some}
-use Rattle.mr_ast.specs.declared.types.IntType.{IntType}
-use Rattle.mr_ast.specs.declared.types.Ty.{Ty, out-Ty, roll-Ty}
-use Rattle.mr_ast.specs.declared.types.Ty.TheVariants as ty
-use Rattle.mr_ast.specs.declared.types.Ty.TheOpen.{Ty-F}
-use Rattle.mr_ast.specs.declared.types.Variant.{Variant}
-use Rattle.mr_ast.specs.Integers.{int_size}
-use Rattle.mr_typing.specs.SameTypes.{same_type}
-use Rattle.mr_typing.specs.Types.{integer_in, integer_of, overflow_type}
-use Rattle.mr_typing.specs.Operands.{is_bool, is_bool_layer, is_fn_ptr, is_raw}
 use Rattle.mr_typing.specs.Known.{are_overflow_fields, is_overflow_layer}
-use Rattle.mr_typing.proofs.KindLaws.{same_type_sym, same_with_bool, same_with_fn_ptr, same_with_int, same_with_raw}
-use Rattle.mr_ast.proofs.TypeInduction.{type_made}
-use Rattle.mr_typing.proofs.SameTypeLaws.{same_type_answer, same_type_equal, same_type_itself}
 use Rattle.mr_layout.proofs.BaseComparisons.{eq_from, eq_itself}
+use Rattle.mr_ast.specs.declared.types.Ty.TheVariants as ty
+use Rattle.mr_typing.proofs.KindLaws.{same_type_sym, same_with_bool, same_with_fn_ptr, same_with_int, same_with_raw}
+use Rattle.mr_typing.proofs.SameTypeLaws.{same_type_answer, same_type_equal, same_type_itself}
 
 -- ---- types without parts
 

@@ -1,9 +1,5 @@
 -- How many bytes the types without parts have.
-use Rattle.std.proofs.Common.{◌≡◌, ℕ, ◌*◌, ◌^◌, true, false, arith}
-use Rattle.std.proofs.lemmas.Bool.Decides.{nat_tests}
-use Rattle.std.specs.Prelude.{nat_lt, if◌then◌else◌, Some, None}
-use Rattle.mr_ast.specs.declared.types.IntType.{IntType}
-use Rattle.mr_ast.specs.Integers.{int_size}
+use Rattle.mr_typing.proofs.Common.{◌≡◌, ℕ, ◌*◌, ◌^◌, true, false, arith, nat_tests, nat_lt, if◌then◌else◌, Some, None, IntType, int_size}
 use Rattle.mr_layout.proofs.Bounds.{type_ok_size, int_small}
 
 pub int_fits : (i : IntType) → nat_lt (int_size i) (2 ^ 63) ≡ true

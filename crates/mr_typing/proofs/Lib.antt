@@ -1,4 +1,5 @@
 pub mod BrokenInLaws
+mod Common
 pub mod ExprWalk
 pub mod JudgedLaws
 pub mod KindLaws

@@ -1,9 +1,5 @@
 -- Lists of rules and faults that hold nothing, and what a rule that is not broken tells.
-use Rattle.std.proofs.Common.{◌≡◌, Bool, true, false, List, [], ◌∷◌, ◌++◌, map, Option, None, Some, refl, ap}
-use Rattle.mr_ast.specs.declared.rule.Rule.{Rule}
-use Rattle.mr_ast.specs.declared.types.Ty.{Ty}
-use Rattle.mr_layout.specs.TypeOk.{TypeOk, broken_rule}
-use Rattle.mr_typing.specs.Broken.{Rules, of_type, rule}
+use Rattle.mr_typing.proofs.Common.{◌≡◌, Bool, true, false, List, [], ◌∷◌, ◌++◌, map, Option, None, Some, refl, ap, Rule, Ty, TypeOk, broken_rule, Rules, of_type, rule}
 
 pub cons_apart : {A : Type 0} (x : A) (rest : List A) → x ∷ rest ≡ [] → ⊥
 cons_apart x rest e = cc

@@ -1,11 +1,8 @@
 -- A part of the variant with a number is that part of the whole variant.
-use Rattle.std.proofs.Common.{◌≡◌, refl, Bool, true, false, if◌then◌else◌, List, [], ◌∷◌, Some, option_map}
-use Rattle.mr_ast.specs.declared.types.Num.{Num}
-use Rattle.mr_ast.specs.declared.types.Ty.{Ty}
-use Rattle.mr_ast.specs.declared.types.Ty.TheOpen.{Ty-F}
-use Rattle.mr_ast.specs.declared.types.Variant.{Variant}
+use Rattle.mr_typing.proofs.Common.{◌≡◌, refl, Bool, true, false, if◌then◌else◌, List, [], ◌∷◌, Some, Num, Ty, Ty-F, Variant, among}
+use Rattle.std.proofs.Common.{option_map}
 use Rattle.mr_layout.specs.EnumRules.{same_num}
-use Rattle.mr_typing.specs.Types.{among, variant_part}
+use Rattle.mr_typing.specs.Types.{variant_part}
 
 among_whole : {A : Type 0} (part : Variant → A) (variants : List Variant) (n : Num) → among part variants n ≡ option_map part (among (λ v. v) variants n)
 among_whole part [] n = refl

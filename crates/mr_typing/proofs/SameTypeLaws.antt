@@ -1,26 +1,20 @@
 -- Two types are written alike exactly where they are equal; the same of trees and variants.
-use Rattle.std.proofs.Common.{◌≡◌, ◌↔◌, ℕ, Bool, true, false, IsTrue, List, [], ◌∷◌, map, refl, sym, ap, ap₂, subst, ◌∙◌}
-use Rattle.std.specs.Prelude.{◌&&◌, ◌==◌, if◌then◌else◌}
+use Rattle.mr_typing.proofs.Common.{◌≡◌, ◌↔◌, ℕ, Bool, true, false, IsTrue, List, [], ◌∷◌, map, refl, sym, ap, ap₂, subst, ◌∙◌, ◌&&◌, ◌==◌, if◌then◌else◌, same_from_decides, and_parts, IntType, U64, Num, Ty, roll-Ty, out-Ty, Ty-F, Variant, int_size, type_made, same_type}
 use Rattle.std.specs.Cmp.Derive.{both_true}
-use Rattle.std.proofs.lemmas.Bool.Decides.{same_from_decides}
-use Rattle.std.proofs.lemmas.Bool.{and_parts}
-use Rattle.mr_ast.specs.declared.types.IntType.{IntType}
-use Rattle.mr_ast.specs.declared.types.IntType.TheVariants.{U8, U16, U32, U64, U128, I8, I16, I32, I64, I128}
-use Rattle.mr_ast.specs.declared.types.Num.{Num}
+use Rattle.mr_ast.specs.declared.types.IntType.TheVariants.{U8, U16, U32, U128, I8, I16, I32, I64, I128}
 use Rattle.mr_ast.specs.declared.types.Tag.{Tag}
 use Rattle.mr_ast.specs.declared.types.Tree.{Tree, roll-Tree, out-Tree, out-roll-Tree}
 use Rattle.mr_ast.specs.declared.types.Tree.TheOpen.{Tree-F}
 use Rattle.mr_ast.specs.declared.types.Tree.TheFolds.{map-Tree, ind-Tree, fold-roll-Tree}
-use Rattle.mr_ast.specs.declared.types.Ty.{Ty, roll-Ty, out-Ty, out-roll-Ty}
-use Rattle.mr_ast.specs.declared.types.Ty.TheOpen.{Ty-F, Variant-F}
+use Rattle.mr_ast.specs.declared.types.Ty.{out-roll-Ty}
+use Rattle.mr_ast.specs.declared.types.Ty.TheOpen.{Variant-F}
 use Rattle.mr_ast.specs.declared.types.Ty.TheFolds.{map-Ty, map-Variant, fold-Variant, fold-roll-Ty, fold-roll-Variant, ind-Ty}
-use Rattle.mr_ast.specs.declared.types.Variant.{Variant, roll-Variant, out-Variant}
-use Rattle.mr_ast.specs.Integers.{is_signed, int_size}
+use Rattle.mr_ast.specs.declared.types.Variant.{roll-Variant, out-Variant}
+use Rattle.mr_ast.specs.Integers.{is_signed}
 use Rattle.mr_ast.proofs.TreeInduction.{tree_made}
-use Rattle.mr_ast.proofs.TypeInduction.{type_made}
 use Rattle.mr_layout.specs.EnumRules.{same_num}
 use Rattle.mr_layout.proofs.TreeOk.{same_num_equal}
-use Rattle.mr_typing.specs.SameTypes.{same_bool, same_cases, same_chunks, same_fields, same_int, same_layer, same_tags, same_tree, same_tree_layer, same_type, same_variant_layer, same_variants}
+use Rattle.mr_typing.specs.SameTypes.{same_bool, same_cases, same_chunks, same_fields, same_int, same_layer, same_tags, same_tree, same_tree_layer, same_variant_layer, same_variants}
 use Rattle.mr_layout.proofs.BaseComparisons.{eq_from, eq_itself}
 
 -- ---- numbers and lists

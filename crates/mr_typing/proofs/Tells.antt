@@ -1,11 +1,6 @@
 -- What an answer of the computed walk tells of the broken rules.
-use Rattle.std.proofs.Common.{◌≡◌, Bool, true, false, [], ◌∷◌, ◌++◌, Option, None, Some, Result, Ok, Err, refl, sym, ap, subst, append_assoc, true≢false, ◌∙◌}
-use Rattle.std.specs.Prelude.{◌&&◌, is_some}
-use Rattle.mr_ast.specs.declared.rule.Rule.{Rule}
-use Rattle.mr_ast.specs.declared.types.Ty.{Ty}
-use Rattle.mr_layout.specs.TypeOk.{broken_rule}
-use Rattle.mr_typing.specs.Broken.{Rules, of_type, rule}
-use Rattle.mr_typing.specs.Judging.{◌>>=◌, kept, sound_type, there}
+use Rattle.mr_typing.proofs.Common.{◌≡◌, Bool, true, false, [], ◌∷◌, ◌++◌, Option, None, Some, Result, Ok, refl, sym, ap, subst, append_assoc, ◌∙◌, ◌&&◌, is_some, Rule, Ty, broken_rule, Rules, of_type, rule, ◌>>=◌, kept, sound_type, there}
+use Rattle.std.proofs.Common.{Err, true≢false}
 use Rattle.mr_typing.proofs.NothingLaws.{cons_apart}
 
 -- An answer tells the broken rules: there are none, and the answer is as it should be; or it is the first of them.

@@ -1,24 +1,9 @@
 -- The equations of `type_of_place` and `type_of_value`, one for each kind of place and value.
-use Rattle.std.proofs.Common.{◌≡◌, ℕ, List, Option, Some, sym, ap, ◌∙◌}
-use Rattle.std.specs.Prelude.{slice_get}
-use Rattle.std.specs.Option.{option_map}
-use Rattle.mr_ast.specs.declared.types.IntType.{IntType}
-use Rattle.mr_ast.specs.declared.types.Num.{Num}
-use Rattle.mr_ast.specs.declared.types.Ty.{Ty}
+use Rattle.mr_typing.proofs.Common.{◌≡◌, ℕ, List, Option, Some, sym, ap, ◌∙◌, slice_get, option_map, IntType, Num, Ty, FnName, GlobalName, LocalName, Local, UnaryOp, BinaryOp, Place, roll-Place, Value, roll-Value, Place-F, Value-F, map-Place, map-Value, fold-roll-Place, fold-roll-Value, chained, discriminant_type, element_type, field_type, result_type, type_of_place, type_of_value, variant_type}
+use Rattle.mr_typing.specs.Types.{place_type_step, value_type_step}
 use Rattle.mr_ast.specs.declared.types.Ty.TheVariants as ty
-use Rattle.mr_ast.specs.declared.program.FnName.{FnName}
-use Rattle.mr_ast.specs.declared.program.GlobalName.{GlobalName}
-use Rattle.mr_ast.specs.declared.program.LocalName.{LocalName}
-use Rattle.mr_ast.specs.declared.program.Local.{Local}
-use Rattle.mr_ast.specs.declared.expr.UnaryOp.{UnaryOp}
-use Rattle.mr_ast.specs.declared.expr.BinaryOp.{BinaryOp}
-use Rattle.mr_ast.specs.declared.expr.Place.{Place, roll-Place}
-use Rattle.mr_ast.specs.declared.expr.Value.{Value, roll-Value}
 use Rattle.mr_ast.specs.declared.expr.Place.TheVariants as place
 use Rattle.mr_ast.specs.declared.expr.Value.TheVariants as value
-use Rattle.mr_ast.specs.declared.expr.Place.TheOpen.{Place-F, Value-F}
-use Rattle.mr_ast.specs.declared.expr.Place.TheFolds.{map-Place, map-Value, fold-roll-Place, fold-roll-Value}
-use Rattle.mr_typing.specs.Types.{chained, discriminant_type, element_type, field_type, place_type_step, result_type, type_of_place, type_of_value, value_type_step, variant_type}
 
 abbrev Answer : Type 0
 Answer = Option Ty

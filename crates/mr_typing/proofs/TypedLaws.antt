@@ -1,29 +1,9 @@
 -- An expression that breaks no rule has a type, and its parts have types that fit.
-use Rattle.std.proofs.Common.{◌≡◌, ℕ, Bool, true, List, [], ◌++◌, map, length, Option, Some, refl, sym, ap, ◌∙◌}
-use Rattle.std.specs.Prelude.{◌&&◌, ◌||◌, is_some}
-use Rattle.std.specs.List.{flat_map, list_all}
-use Rattle.std.proofs.lemmas.Bool.{and_parts}
-use Rattle.mr_ast.specs.declared.rule.Rule.{Rule}
+use Rattle.mr_typing.proofs.Common.{◌≡◌, ℕ, Bool, true, List, [], ◌++◌, map, length, Option, Some, refl, sym, ap, ◌∙◌, ◌&&◌, ◌||◌, is_some, flat_map, list_all, and_parts, Rule, IntType, U64, Num, Ty, UnaryOp, BinaryOp, Place, Value, is_shaped_type, is_shaped_num, fits_u64, Named, is_shaped_place, is_shaped_value, is_fitting, TypeOk, discriminant_type, element_type, field_type, type_of_place, type_of_value, variant_type, fits_binary, fits_parts, fits_unary, fits_union, fits_variant, is_int, is_pointer, is_raw, is_ref, is_scalar_number, same_size, Surroundings, broken_in_place, broken_in_value, of_type, rule, where_all_typed, where_both_typed, where_typed, judged_place, judged_value, judged_values}
+use Rattle.mr_ast.proofs.ShapedLaws.{shaped_deref, shaped_field_place, shaped_index_place, shaped_variant_place, shaped_tuple, shaped_union, shaped_variant, shaped_load, shaped_disc, shaped_addr_of, shaped_cast, shaped_transmute, shaped_unary, shaped_binary}
 use Rattle.mr_ast.specs.declared.rule.Rule.TheVariants as form
-use Rattle.mr_ast.specs.declared.types.IntType.{IntType}
-use Rattle.mr_ast.specs.declared.types.IntType.TheVariants.{U64}
-use Rattle.mr_ast.specs.declared.types.Num.{Num}
-use Rattle.mr_ast.specs.declared.types.Ty.{Ty}
-use Rattle.mr_ast.specs.declared.expr.UnaryOp.{UnaryOp}
-use Rattle.mr_ast.specs.declared.expr.BinaryOp.{BinaryOp}
-use Rattle.mr_ast.specs.declared.expr.Place.{Place}
-use Rattle.mr_ast.specs.declared.expr.Value.{Value}
 use Rattle.mr_ast.specs.declared.expr.Place.TheVariants as place
 use Rattle.mr_ast.specs.declared.expr.Value.TheVariants as value
-use Rattle.mr_ast.specs.ShapedTypes.{is_shaped_type, is_shaped_num, fits_u64}
-use Rattle.mr_ast.specs.ShapedValues.{Named, is_shaped_place, is_shaped_value}
-use Rattle.mr_ast.proofs.ShapedLaws.{shaped_deref, shaped_field_place, shaped_index_place, shaped_variant_place, shaped_tuple, shaped_union, shaped_variant, shaped_load, shaped_disc, shaped_addr_of, shaped_cast, shaped_transmute, shaped_unary, shaped_binary}
-use Rattle.mr_ast.specs.Integers.{is_fitting}
-use Rattle.mr_layout.specs.TypeOk.{TypeOk}
-use Rattle.mr_typing.specs.Types.{discriminant_type, element_type, field_type, type_of_place, type_of_value, variant_type}
-use Rattle.mr_typing.specs.Operands.{fits_binary, fits_parts, fits_unary, fits_union, fits_variant, is_int, is_pointer, is_raw, is_ref, is_scalar_number, same_size}
-use Rattle.mr_typing.specs.Broken.{Surroundings, broken_in_place, broken_in_value, of_type, rule, where_all_typed, where_both_typed, where_typed}
-use Rattle.mr_typing.specs.Judging.{judged_place, judged_value, judged_values}
 use Rattle.mr_typing.proofs.NothingLaws.{both_nothing, rule_kept, three_nothing, type_kept}
 use Rattle.mr_typing.proofs.Tells.{tells_unbroken}
 use Rattle.mr_typing.proofs.ExprWalk.{Judges, place_told, row_test, row_told, value_told}

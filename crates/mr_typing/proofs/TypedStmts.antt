@@ -1,29 +1,12 @@
 -- The parts of a statement and a terminator that break no rule have types that fit.
-use Rattle.std.proofs.Common.{◌≡◌, Bool, true, List, [], ◌++◌, map, length, Option, Some, refl, sym, ap, ◌∙◌}
-use Rattle.std.specs.Prelude.{◌&&◌, not, is_some}
-use Rattle.std.specs.List.{list_all}
-use Rattle.std.proofs.lemmas.Bool.{and_parts}
-use Rattle.mr_ast.specs.declared.rule.Rule.TheVariants as form
-use Rattle.mr_ast.specs.declared.types.Num.{Num}
-use Rattle.mr_ast.specs.declared.types.Ty.{Ty}
-use Rattle.mr_ast.specs.declared.expr.Place.{Place}
-use Rattle.mr_ast.specs.declared.expr.Value.{Value}
+use Rattle.mr_typing.proofs.Common.{◌≡◌, Bool, true, List, [], ◌++◌, map, length, Option, Some, refl, sym, ap, ◌∙◌, ◌&&◌, not, is_some, list_all, and_parts, Num, Ty, Place, Value, Function, LocalName, is_block, is_optional_block, is_optional_place, is_shaped_stmt, is_shaped_target, is_shaped_term, is_shaped_num, Named, is_shaped_place, is_shaped_value, same_type, type_of_place, type_of_value, variant_type, is_fn_ptr, is_raw, Surroundings, broken_in_place, broken_in_value, rule, where_all_typed, where_both_typed, where_typed, broken_in_parts, broken_in_result, broken_in_stmt, broken_in_values, fits_switch, is_kept, where_result_typed}
 use Rattle.mr_ast.specs.declared.program.BlockName.{BlockName}
-use Rattle.mr_ast.specs.declared.program.Function.{Function}
 use Rattle.mr_ast.specs.declared.program.Intrinsic.{Intrinsic}
-use Rattle.mr_ast.specs.declared.program.LocalName.{LocalName}
+use Rattle.mr_typing.specs.Intrinsics.{fits_intrinsic}
+use Rattle.mr_typing.specs.JudgingBlocks.{judged_result}
+use Rattle.mr_ast.specs.declared.rule.Rule.TheVariants as form
 use Rattle.mr_ast.specs.declared.program.Stmt.TheVariants as stmt
 use Rattle.mr_ast.specs.declared.program.Term.TheVariants as term
-use Rattle.mr_ast.specs.Shaped.{is_block, is_optional_block, is_optional_place, is_shaped_stmt, is_shaped_target, is_shaped_term}
-use Rattle.mr_ast.specs.ShapedTypes.{is_shaped_num}
-use Rattle.mr_ast.specs.ShapedValues.{Named, is_shaped_place, is_shaped_value}
-use Rattle.mr_typing.specs.SameTypes.{same_type}
-use Rattle.mr_typing.specs.Types.{type_of_place, type_of_value, variant_type}
-use Rattle.mr_typing.specs.Operands.{is_fn_ptr, is_raw}
-use Rattle.mr_typing.specs.Intrinsics.{fits_intrinsic}
-use Rattle.mr_typing.specs.Broken.{Surroundings, broken_in_place, broken_in_value, rule, where_all_typed, where_both_typed, where_typed}
-use Rattle.mr_typing.specs.Blocks.{broken_in_parts, broken_in_result, broken_in_stmt, broken_in_values, fits_switch, is_kept, where_result_typed}
-use Rattle.mr_typing.specs.JudgingBlocks.{judged_result}
 use Rattle.mr_typing.proofs.NothingLaws.{both_nothing, rule_kept, three_nothing}
 use Rattle.mr_typing.proofs.SameTypeLaws.{same_type_equal}
 use Rattle.mr_typing.proofs.Tells.{tells_unbroken}

@@ -1,26 +1,20 @@
 -- What a program without a fault keeps, part by part.
-use Rattle.std.proofs.Common.{◌≡◌, ℕ, suc, Bool, true, List, [], ◌∷◌, ◌++◌, length, Option, None, Some, All}
-use Rattle.std.specs.List.{AllPass, flat_map}
+use Rattle.mr_typing.proofs.Common.{◌≡◌, ℕ, suc, Bool, true, List, [], ◌∷◌, ◌++◌, length, Option, None, Some, All, flat_map, Rule, Function, Local, Stmt, TypeOk, broken_in_parts, broken_in_stmt, broken_in_term, is_allowed, Rules, of_type, rule, surroundings}
+use Rattle.std.specs.List.{AllPass}
 use Rattle.std.proofs.lemmas.List.Elements.{All-cons, All-nil}
-use Rattle.mr_ast.specs.declared.rule.Rule.{Rule}
-use Rattle.mr_ast.specs.declared.rule.Rule.TheVariants as form
 use Rattle.mr_ast.specs.declared.program.Block.{Block}
 use Rattle.mr_ast.specs.declared.program.BlockName.{BlockName}
-use Rattle.mr_ast.specs.declared.program.Function.{Function}
 use Rattle.mr_ast.specs.declared.program.Global_.{Global_}
 use Rattle.mr_ast.specs.declared.program.Item_.{Item_}
-use Rattle.mr_ast.specs.declared.program.Local.{Local}
 use Rattle.mr_ast.specs.declared.program.Program.{Program}
-use Rattle.mr_ast.specs.declared.program.Stmt.{Stmt}
 use Rattle.mr_ast.specs.FormRules.{code_of}
-use Rattle.mr_layout.specs.TypeOk.{TypeOk}
 use Rattle.mr_typing.specs.declared.fault.FormFault.{FormFault}
 use Rattle.mr_typing.specs.declared.fault.Item.{Item}
-use Rattle.mr_typing.specs.declared.fault.Item.TheVariants.{Static, Function as InFunction}
-use Rattle.mr_typing.specs.Blocks.{broken_in_parts, broken_in_stmt, broken_in_term, is_allowed}
 use Rattle.mr_typing.specs.Unbroken.{UnbrokenBlock, UnbrokenFunction, UnbrokenGlobal, UnbrokenProgram}
-use Rattle.mr_typing.specs.Broken.{Rules, of_type, rule, sizes_of, surroundings}
+use Rattle.mr_typing.specs.Broken.{sizes_of}
 use Rattle.mr_typing.specs.Walk.{WellFormed, are_arguments, at_position, begins_regular, broken_in_global, each_at, faults_in_block, faults_in_function, faults_in_global, faults_in_local, faults_in_stmt, faults_of, is_global_form, is_main_form, is_target}
+use Rattle.mr_ast.specs.declared.rule.Rule.TheVariants as form
+use Rattle.mr_typing.specs.declared.fault.Item.TheVariants.{Static, Function as InFunction}
 use Rattle.mr_typing.proofs.NothingLaws.{both_nothing, map_nothing, rule_kept, three_nothing, type_kept}
 
 -- ---- positions

@@ -1,29 +1,19 @@
 -- The types that are written in a program without a fault are well-formed.
-use Rattle.std.proofs.Common.{◌≡◌, List, [], ◌∷◌, ◌++◌, Option, None, Some, All, sym, ◌∙◌}
-use Rattle.std.specs.List.{flat_map}
+use Rattle.mr_typing.proofs.Common.{◌≡◌, List, [], ◌∷◌, ◌++◌, Option, None, Some, All, sym, ◌∙◌, flat_map, Ty, Place, Value, Function, Local, Stmt, TypeOk, broken_in_parts, broken_in_result, broken_in_stmt, broken_in_values, Rules, Surroundings, broken_in_place, broken_in_value, of_type, surroundings}
 use Rattle.std.proofs.lemmas.List.Elements.{All-append, All-head, All-nil, All-same, All-tail}
-use Rattle.mr_ast.specs.declared.types.Ty.{Ty}
-use Rattle.mr_ast.specs.declared.expr.Place.{Place}
-use Rattle.mr_ast.specs.declared.expr.Value.{Value}
 use Rattle.mr_ast.specs.declared.program.Block.{Block}
-use Rattle.mr_ast.specs.declared.program.Function.{Function}
-use Rattle.mr_ast.specs.declared.program.Local.{Local}
 use Rattle.mr_ast.specs.declared.program.Program.{Program}
-use Rattle.mr_ast.specs.declared.program.Stmt.{Stmt}
-use Rattle.mr_ast.specs.declared.program.Stmt.TheVariants as stmt
 use Rattle.mr_ast.specs.declared.program.Term.{Term}
-use Rattle.mr_ast.specs.declared.program.Term.TheVariants as term
 use Rattle.mr_ast.proofs.ExprInduction.{AllValues, ExprCases, place_induction, value_induction}
-use Rattle.mr_layout.specs.TypeOk.{TypeOk}
 use Rattle.mr_layout.specs.Written.{types_of, types_of_block, types_of_function, types_of_locals, types_of_place, types_of_result, types_of_stmt, types_of_term, types_of_value, types_of_values, written_types}
 use Rattle.mr_layout.proofs.WrittenLaws.{types_local, types_deref, types_field, types_index, types_variant_place, types_int, types_true, types_false, types_raw, types_fn, types_global, types_tuple, types_union, types_variant, types_load, types_disc, types_addr_of, types_cast, types_transmute, types_unary, types_binary}
 use Rattle.mr_layout.proofs.WrittenParts.{ok_types}
-use Rattle.mr_typing.specs.Blocks.{broken_in_parts, broken_in_result, broken_in_stmt, broken_in_values}
-use Rattle.mr_typing.specs.Broken.{Rules, Surroundings, broken_in_place, broken_in_value, of_type, surroundings}
 use Rattle.mr_typing.specs.Walk.{WellFormed}
+use Rattle.mr_typing.specs.Unbroken.{UnbrokenBlock, UnbrokenFunction}
+use Rattle.mr_ast.specs.declared.program.Stmt.TheVariants as stmt
+use Rattle.mr_ast.specs.declared.program.Term.TheVariants as term
 use Rattle.mr_typing.proofs.BrokenInLaws.{broken_in_deref, broken_in_field, broken_in_index, broken_in_variant_place, broken_in_tuple, broken_in_union, broken_in_variant, broken_in_load, broken_in_disc, broken_in_addr_of, broken_in_cast, broken_in_transmute, broken_in_unary, broken_in_binary}
 use Rattle.mr_typing.proofs.NothingLaws.{both_nothing, three_nothing, type_kept}
-use Rattle.mr_typing.specs.Unbroken.{UnbrokenBlock, UnbrokenFunction}
 use Rattle.mr_typing.proofs.UnbrokenLaws.{well_formed_keeps}
 
 -- the types are well-formed where these rules are not broken

@@ -1,15 +1,10 @@
 -- The fields of a tuple and the chunks of a union that break no rule have no byte in common.
-use Rattle.std.proofs.Common.{◌≡◌, ℕ, ◌%◌, false, List, None, sym, ◌∙◌}
-use Rattle.std.specs.Prelude.{not, ◌&&◌, ◌||◌, ◌==◌}
-use Rattle.std.proofs.lemmas.Bool.{and_parts}
-use Rattle.mr_ast.specs.declared.rule.Rule.TheVariants.{TypeSize, TypeAlign, FieldOutside, FieldOverlap, SizeMultiple, UnionChunk}
-use Rattle.mr_ast.specs.declared.types.Ty.{Ty}
-use Rattle.mr_ast.specs.declared.types.Ty.TheVariants as ty
-use Rattle.mr_layout.specs.Rules.{is_large, is_align, is_past, is_overlapping, tuple_rules, is_chunk_past, is_rising, is_chunk_overlapping, are_covered, union_rules}
-use Rattle.mr_layout.specs.TypeOk.{TypeOk, first_broken_field}
+use Rattle.mr_value.proofs.Common.{◌≡◌, ℕ, ◌%◌, false, List, None, sym, ◌∙◌, not, ◌&&◌, ◌||◌, ◌==◌, and_parts, TypeSize, TypeAlign, SizeMultiple, Ty, is_large, is_align, is_overlapping, is_chunk_overlapping, TypeOk, or_else_none, rule_none, not_false, not_true}
+use Rattle.mr_ast.specs.declared.rule.Rule.TheVariants.{FieldOutside, FieldOverlap, UnionChunk}
+use Rattle.mr_layout.specs.Rules.{is_past, tuple_rules, is_chunk_past, is_rising, are_covered, union_rules}
+use Rattle.mr_layout.specs.TypeOk.{first_broken_field}
 use Rattle.mr_layout.proofs.BrokenLaws.{broken_tuple, broken_union}
-use Rattle.mr_layout.proofs.Bounds.{or_else_none, rule_none}
-use Rattle.mr_base.proofs.Comparisons.{not_false, not_true}
+use Rattle.mr_ast.specs.declared.types.Ty.TheVariants as ty
 
 apart_fields : (size align : ℕ) (fields : List (ℕ × Ty)) → tuple_rules size align fields ≡ None → is_overlapping fields ≡ false
 unfolding tuple_rules

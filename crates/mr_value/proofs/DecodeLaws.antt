@@ -1,19 +1,8 @@
 -- The equations of `decoded`, one for each kind of type.
-use Rattle.std.proofs.Common.{◌≡◌, ℕ, Bool, true, List, [], ◌∷◌, Option, Some, None, map, refl, sym, ap, ◌∙◌}
-use Rattle.std.specs.Prelude.{if◌then◌else◌, option_map, option_and_then}
-use Rattle.mr_ast.specs.declared.types.IntType.{IntType}
-use Rattle.mr_ast.specs.declared.types.Num.{Num}
-use Rattle.mr_ast.specs.declared.types.Tree.{Tree}
-use Rattle.mr_ast.specs.declared.types.Ty.{Ty, roll-Ty}
+use Rattle.mr_value.proofs.Common.{◌≡◌, ℕ, Bool, true, List, [], ◌∷◌, Option, Some, None, map, refl, sym, ap, ◌∙◌, if◌then◌else◌, option_map, option_and_then, IntType, Num, Tree, Ty, roll-Ty, Ty-F, map-Ty, para-Variant, para-roll-Ty, para-roll-Variant, Variant, out-Variant, size_of, Bytes, number_of, walk, Reader, bool_of, pointer_where, is_not_null, is_aligned, elements_in, chunks_in, decoded, read_fields, read_variant}
+use Rattle.mr_value.specs.Decode.{variant_in, decode_step}
 use Rattle.mr_ast.specs.declared.types.Ty.TheVariants as ty
-use Rattle.mr_ast.specs.declared.types.Ty.TheOpen.{Ty-F}
-use Rattle.mr_ast.specs.declared.types.Ty.TheFolds.{map-Ty, para-Variant, para-roll-Ty, para-roll-Variant}
-use Rattle.mr_ast.specs.declared.types.Variant.{Variant, out-Variant}
-use Rattle.mr_layout.specs.Sizes.{size_of}
 use Rattle.mr_value.specs.declared.val.Val.TheVariants as val
-use Rattle.mr_value.specs.Numbers.{Bytes, number_of}
-use Rattle.mr_value.specs.Discriminants.{walk}
-use Rattle.mr_value.specs.Decode.{Reader, bool_of, pointer_where, is_not_null, is_aligned, elements_in, chunks_in, variant_in, decode_step, decoded, read_fields, read_variant}
 
 unfoldable pub decoded_variant : Variant → Reader
 decoded_variant = para-Variant Reader Reader decode_step (λ v. v.ty.1)

@@ -1,30 +1,10 @@
 -- What bytes mean at a type has the type's shape.
-use Rattle.std.proofs.Common.{◌≡◌, ℕ, zero, suc, ◌+◌, ◌*◌, ◌%◌, ◌^◌, ◌<◌, ◌≤◌, Bool, true, false, List, [], ◌∷◌, length, take, drop, Some, None, refl, sym, subst, ap, ◌∙◌, arith, length-append, length-take, length-drop}
-use Rattle.std.specs.Prelude.{◌&&◌, if◌then◌else◌, option_map}
-use Rattle.mr_ast.specs.declared.types.Num.{Num}
-use Rattle.mr_ast.specs.declared.types.Ty.{Ty}
+use Rattle.mr_value.proofs.Common.{◌≡◌, ℕ, zero, suc, ◌+◌, ◌*◌, ◌%◌, ◌^◌, ◌<◌, ◌≤◌, Bool, true, false, List, [], ◌∷◌, length, take, drop, Some, None, refl, sym, subst, ap, ◌∙◌, arith, length-append, length-take, length-drop, ◌&&◌, if◌then◌else◌, option_map, Num, Ty, Variant, AllFields, AllVariants, TypeCases, type_induction, Pointer, Uninit, Init, size_of, int_size, same_num, FieldsOk, ChunksInside, VariantsOk, TypeOk, tuple_parts, array_part, union_parts, enum_parts, size_int, size_tuple, size_array, size_union, size_enum, Val, Bytes, part, number_of, pointer_of, walk, bool_of, pointer_where, is_not_null, is_aligned, elements_in, chunks_in, decoded, read_fields, read_variant, chunks_size, elements_pass, has_shape, fields_have_shape, variant_has_shape, lt_test, some_is, mapped, followed}
+use Rattle.mr_base.proofs.Comparisons.{eq_test}
 use Rattle.mr_ast.specs.declared.types.Ty.TheVariants as ty
-use Rattle.mr_ast.specs.declared.types.Variant.{Variant}
-use Rattle.mr_ast.proofs.TypeInduction.{AllFields, AllVariants, TypeCases, type_induction}
-use Rattle.mr_base.specs.declared.byte.Pointer.{Pointer}
-use Rattle.mr_base.specs.declared.byte.AbstractByte.TheVariants.{Uninit, Init}
-use Rattle.mr_layout.specs.Sizes.{size_of}
-use Rattle.mr_ast.specs.Integers.{int_size}
-use Rattle.mr_layout.specs.EnumRules.{same_num}
-use Rattle.mr_layout.proofs.PartFacts.{FieldsOk, ChunksInside, VariantsOk}
-use Rattle.mr_layout.specs.TypeOk.{TypeOk}
-use Rattle.mr_layout.proofs.PartsOk.{tuple_parts, array_part, union_parts, enum_parts}
-use Rattle.mr_layout.proofs.SizeLaws.{size_int, size_tuple, size_array, size_union, size_enum}
-use Rattle.mr_value.specs.declared.val.Val.{Val}
 use Rattle.mr_value.specs.declared.val.Val.TheVariants as val
-use Rattle.mr_value.specs.Numbers.{Bytes, part, number_of, pointer_of}
-use Rattle.mr_value.specs.Discriminants.{walk}
-use Rattle.mr_value.specs.Decode.{bool_of, pointer_where, is_not_null, is_aligned, elements_in, chunks_in, decoded, read_fields, read_variant}
-use Rattle.mr_value.specs.Shape.{chunks_size, elements_pass, has_shape, fields_have_shape, variant_has_shape}
-use Rattle.mr_base.proofs.Comparisons.{eq_test, lt_test}
 use Rattle.mr_value.proofs.DecodeLaws.{decode_int, decode_bool, decode_raw, decode_fn_ptr, decode_ref, decode_tuple, decode_array, decode_union, decode_enum}
 use Rattle.mr_value.proofs.Digits.{more_byte}
-use Rattle.mr_base.proofs.Options.{some_is, mapped, followed}
 use Rattle.mr_value.proofs.ShapeLaws.{has_int, has_bool, has_raw, has_fn_ptr, has_ref, has_tuple, has_array, has_union, has_enum}
 
 pub number_fits : (b : Bytes) (n : ℕ) → number_of b ≡ Some n → n < 2 ^ (8 * length b)

@@ -1,17 +1,6 @@
 -- One turn of each loop of decoding.
-use Rattle.std.proofs.Common.{◌≡◌, ℕ, suc, ◌+◌, ◌-◌, ◌*◌, ◌<◌, ◌≤◌, true, List, [], ◌∷◌, ◌++◌, length, get_or, take, drop, Option, Some, None, refl, sym, ap, ◌∙◌, arith, append_assoc, append-nil}
-use Rattle.std.specs.Prelude.{option_map, option_and_then, nat_le, ◌==◌}
-use Rattle.std.proofs.lemmas.List.{drop-drop, drop_more}
+use Rattle.mr_value.proofs.Common.{◌≡◌, ℕ, suc, ◌+◌, ◌-◌, ◌*◌, ◌<◌, ◌≤◌, true, List, [], ◌∷◌, ◌++◌, length, get_or, take, drop, Option, Some, None, refl, sym, ap, ◌∙◌, arith, append_assoc, append-nil, option_map, option_and_then, nat_le, ◌==◌, drop-drop, drop_more, and_parts, Ty, Variant, size_of, is_ok, are_ok, are_variants_ok, are_chunks_ok, Val, Bytes, part, Reader, decoded, read_fields, elements_in, chunks_in, eq_from, le_from}
 use Rattle.std.proofs.Math.Nat.{mul-le-mul_right}
-use Rattle.std.proofs.lemmas.Bool.{and_parts}
-use Rattle.mr_ast.specs.declared.types.Ty.{Ty}
-use Rattle.mr_ast.specs.declared.types.Variant.{Variant}
-use Rattle.mr_layout.specs.Sizes.{size_of}
-use Rattle.mr_layout.specs.Parts.{is_ok, are_ok, are_variants_ok, are_chunks_ok}
-use Rattle.mr_value.specs.declared.val.Val.{Val}
-use Rattle.mr_value.specs.Numbers.{Bytes, part}
-use Rattle.mr_value.specs.Decode.{Reader, decoded, read_fields, elements_in, chunks_in}
-use Rattle.mr_base.proofs.Comparisons.{eq_from, le_from}
 use Rattle.mr_value.proofs.PartLaws.{part_part}
 
 -- the next field lies inside, and its type and the fields behind it break no rule

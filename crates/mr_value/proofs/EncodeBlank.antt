@@ -1,32 +1,10 @@
 -- In the encoding of a value each byte that its type doesn't use is uninitialised.
-use Rattle.std.proofs.Common.{◌≡◌, ℕ, suc, ◌+◌, ◌-◌, ◌*◌, ◌%◌, ◌<◌, ◌≤◌, ◌⊎◌, inl, inr, ⊎_elim, Bool, true, false, List, [], ◌∷◌, length, refl, sym, subst, ap, ◌∙◌, arith}
-use Rattle.std.proofs.lemmas.Bool.Decides.{nat_tests}
-use Rattle.std.proofs.lemmas.List.{get_or-replicate, get_or_append_left, get_or-append_right, length-replicate}
+use Rattle.mr_value.proofs.Common.{◌≡◌, ℕ, suc, ◌+◌, ◌-◌, ◌*◌, ◌%◌, ◌<◌, ◌≤◌, ◌⊎◌, ⊎_elim, Bool, true, false, List, [], ◌∷◌, length, refl, sym, subst, ap, ◌∙◌, arith, nat_tests, get_or_append_left, get_or-append_right, length-replicate, ◌&&◌, nat_lt, nat_le, if◌then◌else◌, and_parts, or_parts, Num, Ty, Variant, AllFields, AllVariants, TypeCases, type_induction, Uninit, same_num, are_tags, are_all_tags, FieldsOk, VariantsOk, size_of, int_size, TypeOk, is_in, is_in_part, is_in_tag, is_used, is_used_variant, is_used_field, is_used_in, tuple_parts, array_part, union_parts, enum_parts, size_int, size_bool, size_raw, size_fn_ptr, size_ref, size_tuple, size_array, size_union, size_enum, with_range_replaced, length-with_range_replaced, Val, Bytes, blank, element_bytes, with_tags, encoding_of, write_fields, write_variant, chunks_size, elements_pass, has_shape, fields_have_shape, variant_has_shape, below_or, eq_from}
+use Rattle.std.proofs.Common.{inl, inr}
+use Rattle.std.proofs.lemmas.List.{get_or-replicate}
 use Rattle.std.proofs.Math.Nat.{mod-eq_of_lt, add-mod_left}
-use Rattle.std.specs.Prelude.{◌&&◌, nat_lt, nat_le, if◌then◌else◌}
-use Rattle.std.proofs.lemmas.Bool.{and_parts, or_parts}
-use Rattle.mr_ast.specs.declared.types.Num.{Num}
-use Rattle.mr_ast.specs.declared.types.Ty.{Ty}
-use Rattle.mr_ast.specs.declared.types.Ty.TheVariants as ty
-use Rattle.mr_ast.specs.declared.types.Variant.{Variant}
-use Rattle.mr_ast.proofs.TypeInduction.{AllFields, AllVariants, TypeCases, type_induction}
-use Rattle.mr_base.specs.declared.byte.AbstractByte.TheVariants.{Uninit}
-use Rattle.mr_layout.specs.EnumRules.{same_num, are_tags, are_all_tags}
-use Rattle.mr_layout.proofs.PartFacts.{FieldsOk, VariantsOk}
-use Rattle.mr_layout.specs.Sizes.{size_of}
-use Rattle.mr_ast.specs.Integers.{int_size}
-use Rattle.mr_layout.specs.TypeOk.{TypeOk}
-use Rattle.mr_layout.specs.Used.{is_in, is_in_part, is_in_tag, is_used, is_used_variant, is_used_field, is_used_in}
-use Rattle.mr_layout.proofs.PartsOk.{tuple_parts, array_part, union_parts, enum_parts}
-use Rattle.mr_layout.proofs.SizeLaws.{size_int, size_bool, size_raw, size_fn_ptr, size_ref, size_tuple, size_array, size_union, size_enum}
 use Rattle.mr_layout.proofs.UsedLaws.{used_int, used_bool, used_raw, used_fn_ptr, used_ref, used_tuple, used_array, used_union, used_enum, used_variant_is}
-use Rattle.mr_runs.specs.Ranges.{with_range_replaced}
-use Rattle.mr_runs.proofs.RangeLaws.{length-with_range_replaced}
-use Rattle.mr_value.specs.declared.val.Val.{Val}
-use Rattle.mr_value.specs.Numbers.{Bytes}
-use Rattle.mr_value.specs.Encode.{blank, element_bytes, with_tags, encoding_of, write_fields, write_variant}
-use Rattle.mr_value.specs.Shape.{chunks_size, elements_pass, has_shape, fields_have_shape, variant_has_shape}
-use Rattle.mr_base.proofs.Comparisons.{below_or, eq_from}
+use Rattle.mr_ast.specs.declared.types.Ty.TheVariants as ty
 use Rattle.mr_value.proofs.EncodeLaws.{encode_tuple, encode_array, encode_union, encode_enum}
 use Rattle.mr_value.proofs.EncodeLength.{length-encoding_of}
 use Rattle.mr_value.proofs.EncodePieces.{chunk_pieces, with_chunks_is, chunks_inside, in_chunks, tag_pieces, with_tags_is, tags_inside, in_tags}

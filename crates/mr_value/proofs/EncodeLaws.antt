@@ -1,21 +1,8 @@
 -- The equations of `encoding_of`, one for each kind of type, at values of its shape.
-use Rattle.std.proofs.Common.{◌≡◌, ℕ, Bool, List, [], ◌∷◌, None, map, refl, sym, ap, ◌∙◌}
-use Rattle.std.specs.Prelude.{if◌then◌else◌}
-use Rattle.mr_ast.specs.declared.types.IntType.{IntType}
-use Rattle.mr_ast.specs.declared.types.Num.{Num}
-use Rattle.mr_ast.specs.declared.types.Tree.{Tree}
-use Rattle.mr_ast.specs.declared.types.Ty.{Ty, roll-Ty}
+use Rattle.mr_value.proofs.Common.{◌≡◌, ℕ, Bool, List, [], ◌∷◌, None, map, refl, sym, ap, ◌∙◌, if◌then◌else◌, IntType, Num, Tree, Ty, roll-Ty, Ty-F, map-Ty, para-Variant, para-roll-Ty, para-roll-Variant, Variant, out-Variant, Pointer, int_size, with_provenance, Val, out-Val, Bytes, little_endian, pointer_bytes, blank, element_bytes, with_chunks, encoding_of, write_fields, write_variant}
+use Rattle.mr_value.specs.Encode.{Writer, variant_bytes, encode_step}
 use Rattle.mr_ast.specs.declared.types.Ty.TheVariants as ty
-use Rattle.mr_ast.specs.declared.types.Ty.TheOpen.{Ty-F}
-use Rattle.mr_ast.specs.declared.types.Ty.TheFolds.{map-Ty, para-Variant, para-roll-Ty, para-roll-Variant}
-use Rattle.mr_ast.specs.declared.types.Variant.{Variant, out-Variant}
-use Rattle.mr_base.specs.declared.byte.Pointer.{Pointer}
-use Rattle.mr_ast.specs.Integers.{int_size}
-use Rattle.mr_runs.specs.Numbers.{with_provenance}
-use Rattle.mr_value.specs.declared.val.Val.{Val, out-Val}
 use Rattle.mr_value.specs.declared.val.Val.TheVariants as val
-use Rattle.mr_value.specs.Numbers.{Bytes, little_endian, pointer_bytes}
-use Rattle.mr_value.specs.Encode.{Writer, blank, element_bytes, with_chunks, variant_bytes, encode_step, encoding_of, write_fields, write_variant}
 
 unfoldable variant_writer : Variant → Writer
 variant_writer = para-Variant Writer Writer (λ layer v. encode_step layer (out-Val v)) (λ v. v.ty.1)

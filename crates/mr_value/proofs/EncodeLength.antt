@@ -1,32 +1,7 @@
 -- The encoding of a value has the size of its type.
-use Rattle.std.proofs.Common.{◌≡◌, ℕ, zero, suc, ◌+◌, ◌*◌, ◌≤◌, Bool, true, false, List, [], ◌∷◌, length, take, drop, Option, None, refl, sym, ap, ◌∙◌, arith, length-append, length-take, length-drop}
-use Rattle.std.specs.Prelude.{if◌then◌else◌}
-use Rattle.std.proofs.lemmas.List.{length-replicate, length-map}
-use Rattle.std.proofs.lemmas.Bool.{and_parts}
-use Rattle.mr_ast.specs.declared.types.Num.{Num}
-use Rattle.mr_ast.specs.declared.types.Tag.{Tag}
-use Rattle.mr_ast.specs.declared.types.Ty.{Ty}
+use Rattle.mr_value.proofs.Common.{◌≡◌, ℕ, zero, suc, ◌+◌, ◌*◌, ◌≤◌, Bool, true, false, List, [], ◌∷◌, length, take, drop, Option, None, refl, sym, ap, ◌∙◌, arith, length-append, length-take, length-drop, if◌then◌else◌, length-replicate, and_parts, Num, Tag, Ty, Variant, AllFields, AllVariants, TypeCases, type_induction, AllocId, Uninit, Init, size_of, int_size, same_num, are_tags, are_all_tags, FieldsOk, ChunksInside, VariantsOk, TypeOk, tuple_parts, array_part, union_parts, enum_parts, size_int, size_bool, size_raw, size_fn_ptr, size_ref, size_tuple, size_array, size_union, size_enum, with_range_replaced, length-with_range_replaced, with_provenance, Val, Bytes, little_endian, bits_of_number, blank, element_bytes, with_chunks, tag_bytes, with_tags, encoding_of, write_fields, write_variant, chunks_size, elements_pass, has_shape, fields_have_shape, variant_has_shape, eq_from}
+use Rattle.std.proofs.lemmas.List.{length-map}
 use Rattle.mr_ast.specs.declared.types.Ty.TheVariants as ty
-use Rattle.mr_ast.specs.declared.types.Variant.{Variant}
-use Rattle.mr_ast.proofs.TypeInduction.{AllFields, AllVariants, TypeCases, type_induction}
-use Rattle.mr_base.specs.declared.byte.AllocId.{AllocId}
-use Rattle.mr_base.specs.declared.byte.AbstractByte.TheVariants.{Uninit, Init}
-use Rattle.mr_layout.specs.Sizes.{size_of}
-use Rattle.mr_ast.specs.Integers.{int_size}
-use Rattle.mr_layout.specs.EnumRules.{same_num, are_tags, are_all_tags}
-use Rattle.mr_layout.proofs.PartFacts.{FieldsOk, ChunksInside, VariantsOk}
-use Rattle.mr_layout.specs.TypeOk.{TypeOk}
-use Rattle.mr_layout.proofs.PartsOk.{tuple_parts, array_part, union_parts, enum_parts}
-use Rattle.mr_layout.proofs.SizeLaws.{size_int, size_bool, size_raw, size_fn_ptr, size_ref, size_tuple, size_array, size_union, size_enum}
-use Rattle.mr_runs.specs.Ranges.{with_range_replaced}
-use Rattle.mr_runs.proofs.RangeLaws.{length-with_range_replaced}
-use Rattle.mr_runs.specs.Numbers.{with_provenance}
-use Rattle.mr_value.specs.declared.val.Val.{Val}
-use Rattle.mr_value.specs.Numbers.{Bytes, little_endian}
-use Rattle.mr_value.specs.Discriminants.{bits_of_number}
-use Rattle.mr_value.specs.Encode.{blank, element_bytes, with_chunks, tag_bytes, with_tags, encoding_of, write_fields, write_variant}
-use Rattle.mr_value.specs.Shape.{chunks_size, elements_pass, has_shape, fields_have_shape, variant_has_shape}
-use Rattle.mr_base.proofs.Comparisons.{eq_from}
 use Rattle.mr_value.proofs.EncodeLaws.{encode_int, encode_bool, encode_raw, encode_fn_ptr, encode_ref, encode_tuple, encode_array, encode_union, encode_enum}
 use Rattle.mr_value.proofs.ShapeLaws.{shape_int, shape_bool, shape_raw, shape_fn_ptr, shape_ref, shape_tuple, shape_array, shape_union, shape_enum}
 use Rattle.mr_value.proofs.TagParts.{enum_tags, first_tag}

@@ -1,21 +1,6 @@
 -- What is written for fields, chunks and tags, as pieces.
-use Rattle.std.proofs.Common.{◌≡◌, ℕ, ◌+◌, ◌≤◌, true, List, [], ◌∷◌, length, take, drop, refl, ap, ◌∙◌, arith, length-take, length-drop}
-use Rattle.std.specs.Prelude.{◌||◌}
-use Rattle.std.proofs.lemmas.Bool.{and_parts}
-use Rattle.mr_ast.specs.declared.types.Tag.{Tag}
-use Rattle.mr_ast.specs.declared.types.Ty.{Ty}
-use Rattle.mr_layout.specs.EnumRules.{are_tags}
-use Rattle.mr_layout.proofs.PartFacts.{FieldsOk, ChunksInside}
-use Rattle.mr_layout.specs.Rules.{meets_any, meets_chunk}
+use Rattle.mr_value.proofs.Common.{◌≡◌, ℕ, ◌+◌, ◌≤◌, true, List, [], ◌∷◌, length, take, drop, refl, ap, ◌∙◌, arith, length-take, length-drop, ◌||◌, and_parts, Tag, Ty, are_tags, FieldsOk, ChunksInside, meets_any, meets_chunk, size_of, int_size, is_in, is_in_chunk, is_in_tag, with_range_replaced, Val, Bytes, with_chunks, tag_bytes, with_tags, encoding_of, write_fields, chunks_size, has_shape, fields_have_shape}
 use Rattle.mr_base.specs.Pairs.{is_meeting}
-use Rattle.mr_layout.specs.Sizes.{size_of}
-use Rattle.mr_ast.specs.Integers.{int_size}
-use Rattle.mr_layout.specs.Used.{is_in, is_in_chunk, is_in_tag}
-use Rattle.mr_runs.specs.Ranges.{with_range_replaced}
-use Rattle.mr_value.specs.declared.val.Val.{Val}
-use Rattle.mr_value.specs.Numbers.{Bytes}
-use Rattle.mr_value.specs.Encode.{with_chunks, tag_bytes, with_tags, encoding_of, write_fields}
-use Rattle.mr_value.specs.Shape.{chunks_size, has_shape, fields_have_shape}
 use Rattle.mr_value.proofs.EncodeLength.{length-encoding_of, length-tag_bytes}
 use Rattle.mr_value.proofs.Pieces.{with_pieces, PiecesInside, is_in_piece, meets_piece}
 use Rattle.mr_value.proofs.TagParts.{first_tag}

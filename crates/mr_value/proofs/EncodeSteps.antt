@@ -1,23 +1,8 @@
 -- One turn of each loop of encoding.
-use Rattle.std.proofs.Common.{◌≡◌, ℕ, suc, ◌+◌, ◌-◌, ◌/◌, ◌%◌, ◌<◌, ◌≤◌, Bool, true, false, List, [], ◌∷◌, ◌++◌, length, get_or, drop, Option, refl, sym, ap, ◌∙◌, arith, append_assoc, append-nil}
+use Rattle.mr_value.proofs.Common.{◌≡◌, ℕ, suc, ◌+◌, ◌-◌, ◌/◌, ◌%◌, ◌<◌, ◌≤◌, Bool, true, false, List, [], ◌∷◌, ◌++◌, length, get_or, drop, Option, refl, sym, ap, ◌∙◌, arith, append_assoc, append-nil, not, ◌&&◌, ◌==◌, if◌then◌else◌, and_parts, drop_more, Num, Tag, Ty, Variant, AllocId, Init, same_num, are_tags, with_range_replaced, with_provenance, Val, Bytes, little_endian, BeginsWith, tag_bytes, with_tags, encoding_of, write_fields, has_shape, fields_have_shape, variant_has_shape}
 use mathlib.Core.Bool.{beq}
-use Rattle.std.specs.Prelude.{Result, IsErr, OnErr, ⊤, not, ◌&&◌, ◌==◌, if◌then◌else◌}
+use Rattle.std.specs.Prelude.{Result, IsErr, OnErr, ⊤}
 use Rattle.std.proofs.lemmas.Result.{MatchResult-from_err}
-use Rattle.std.proofs.lemmas.Bool.{and_parts}
-use Rattle.std.proofs.lemmas.List.{drop_more}
-use Rattle.mr_ast.specs.declared.types.Num.{Num}
-use Rattle.mr_ast.specs.declared.types.Tag.{Tag}
-use Rattle.mr_ast.specs.declared.types.Ty.{Ty}
-use Rattle.mr_ast.specs.declared.types.Variant.{Variant}
-use Rattle.mr_base.specs.declared.byte.AllocId.{AllocId}
-use Rattle.mr_base.specs.declared.byte.AbstractByte.TheVariants.{Init}
-use Rattle.mr_layout.specs.EnumRules.{same_num, are_tags}
-use Rattle.mr_runs.specs.Ranges.{with_range_replaced}
-use Rattle.mr_runs.specs.Numbers.{with_provenance}
-use Rattle.mr_value.specs.declared.val.Val.{Val}
-use Rattle.mr_value.specs.Numbers.{Bytes, little_endian}
-use Rattle.mr_value.specs.Encode.{BeginsWith, tag_bytes, with_tags, encoding_of, write_fields}
-use Rattle.mr_value.specs.Shape.{has_shape, fields_have_shape, variant_has_shape}
 use Rattle.mr_value.proofs.TagParts.{TagOk, first_tag}
 
 -- a list begins with itself, with what it was before it grew, and with what that began with

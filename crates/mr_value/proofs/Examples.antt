@@ -1,21 +1,10 @@
 -- The bytes of some values, computed.
-use Rattle.std.proofs.Common.{◌≡◌, ℕ, true, false, List, [], ◌∷◌, Option, Some, None, refl}
+use Rattle.mr_value.proofs.Common.{◌≡◌, ℕ, true, false, List, [], ◌∷◌, Option, Some, None, refl, Num, Tag, Ty, AllocId, Uninit, Init, Bytes, little_endian, pointer, number_of_bits, bits_of_number, decoded, encoding_of, is_faithful, has_shape}
 use Rattle.mr_ast.specs.declared.types.IntType.TheVariants.{U8, U16, U32, I8, I16}
-use Rattle.mr_ast.specs.declared.types.Num.{Num}
-use Rattle.mr_ast.specs.declared.types.Tag.{Tag}
-use Rattle.mr_ast.specs.declared.types.Tree.TheVariants as tree
-use Rattle.mr_ast.specs.declared.types.Ty.{Ty}
-use Rattle.mr_ast.specs.declared.types.Ty.TheVariants as ty
-use Rattle.mr_base.specs.declared.byte.AllocId.{AllocId}
-use Rattle.mr_base.specs.declared.byte.AbstractByte.TheVariants.{Uninit, Init}
 use Rattle.mr_layout.proofs.SizeLaws.{size_laws}
+use Rattle.mr_ast.specs.declared.types.Tree.TheVariants as tree
+use Rattle.mr_ast.specs.declared.types.Ty.TheVariants as ty
 use Rattle.mr_value.specs.declared.val.Val.TheVariants as val
-use Rattle.mr_value.specs.Numbers.{Bytes, little_endian, pointer}
-use Rattle.mr_value.specs.Discriminants.{number_of_bits, bits_of_number}
-use Rattle.mr_value.specs.Decode.{decoded}
-use Rattle.mr_value.specs.Encode.{encoding_of}
-use Rattle.mr_value.specs.Faithful.{is_faithful}
-use Rattle.mr_value.specs.Shape.{has_shape}
 use Rattle.mr_value.proofs.DecodeLaws.{decode_laws}
 use Rattle.mr_value.proofs.EncodeLaws.{encode_laws}
 use Rattle.mr_value.proofs.FaithfulLaws.{faithful_laws}

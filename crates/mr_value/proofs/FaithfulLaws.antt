@@ -1,23 +1,9 @@
 -- The equations of `is_faithful`, at values of each type's shape.
-use Rattle.std.proofs.Common.{◌≡◌, ℕ, Bool, List, [], ◌∷◌, map, refl, sym, ap, ◌∙◌}
-use Rattle.std.specs.Prelude.{not, ◌&&◌}
-use Rattle.mr_ast.specs.declared.types.IntType.{IntType}
-use Rattle.mr_ast.specs.declared.types.Num.{Num}
-use Rattle.mr_ast.specs.declared.types.Tree.{Tree}
-use Rattle.mr_ast.specs.declared.types.Ty.{Ty, roll-Ty}
-use Rattle.mr_ast.specs.declared.types.Ty.TheVariants as ty
-use Rattle.mr_ast.specs.declared.types.Ty.TheOpen.{Ty-F}
-use Rattle.mr_ast.specs.declared.types.Ty.TheFolds.{map-Ty, para-Variant, para-roll-Ty, para-roll-Variant}
-use Rattle.mr_ast.specs.declared.types.Variant.{Variant, out-Variant}
-use Rattle.mr_base.specs.declared.byte.Pointer.{Pointer}
-use Rattle.mr_value.specs.declared.val.Val.{Val, out-Val}
-use Rattle.mr_value.specs.declared.val.Val.TheVariants as val
-use Rattle.mr_value.specs.Decode.{is_not_null, is_aligned}
-use Rattle.mr_value.specs.Discriminants.{walk}
-use Rattle.mr_value.specs.Encode.{encoding_of}
-use Rattle.mr_value.specs.Faithful.{is_found, faithful_step, variant_faithful_step, is_faithful, fields_faithful, variant_faithful}
-use Rattle.mr_value.specs.Shape.{ValueTest, elements_pass, variant_passes}
+use Rattle.mr_value.proofs.Common.{◌≡◌, ℕ, Bool, List, [], ◌∷◌, map, refl, sym, ap, ◌∙◌, not, ◌&&◌, IntType, Num, Tree, Ty, roll-Ty, Ty-F, map-Ty, para-Variant, para-roll-Ty, para-roll-Variant, Variant, out-Variant, Pointer, Val, out-Val, is_not_null, is_aligned, walk, encoding_of, is_found, is_faithful, fields_faithful, variant_faithful, ValueTest, elements_pass, variant_passes}
+use Rattle.mr_value.specs.Faithful.{faithful_step, variant_faithful_step}
 use Rattle.mr_ast.specs.ShapedTypes.{fits_u64}
+use Rattle.mr_ast.specs.declared.types.Ty.TheVariants as ty
+use Rattle.mr_value.specs.declared.val.Val.TheVariants as val
 
 unfoldable variant_test : Variant → ValueTest
 variant_test = para-Variant ValueTest ValueTest (λ layer v. faithful_step layer (out-Val v)) variant_faithful_step

@@ -1,4 +1,5 @@
 pub mod ApartParts
+mod Common
 pub mod DecodeLaws
 pub mod DecodeShape
 pub mod DecodeSteps

@@ -1,19 +1,7 @@
 -- What an answer of decoding says of the values that bytes mean.
-use Rattle.std.proofs.Common.{◌≡◌, ℕ, true, length, Option, Some, None, sym, ◌∙◌, arith}
-use Rattle.std.proofs.lemmas.List.{take_all}
-use Rattle.std.specs.Prelude.{IfSome, IfNone}
-use Rattle.mr_ast.specs.declared.types.Ty.{Ty}
-use Rattle.mr_layout.specs.Sizes.{size_of}
-use Rattle.mr_layout.specs.TypeOk.{TypeOk}
-use Rattle.mr_value.specs.declared.val.Val.{Val}
-use Rattle.mr_value.specs.Decode.{decoded, Means}
-use Rattle.mr_value.specs.Encode.{encoding_of}
-use Rattle.mr_value.specs.Faithful.{is_faithful}
-use Rattle.mr_value.specs.Numbers.{Bytes, part}
-use Rattle.mr_value.specs.Shape.{has_shape}
+use Rattle.mr_value.proofs.Common.{◌≡◌, ℕ, true, length, Option, Some, None, sym, ◌∙◌, arith, take_all, IfSome, IfNone, Ty, size_of, TypeOk, Val, decoded, Means, encoding_of, is_faithful, Bytes, part, has_shape, some_is}
 use Rattle.mr_value.proofs.DecodeShape.{decoded_has_shape}
 use Rattle.mr_value.proofs.EncodeLength.{length-encoding_of}
-use Rattle.mr_base.proofs.Options.{some_is}
 use Rattle.mr_value.proofs.ReadsBack.{decoded-encoding_of}
 
 pub same_meaning : (t : Ty) (b : Bytes) (v w : Val) → Means t b v → Means t b w → v ≡ w

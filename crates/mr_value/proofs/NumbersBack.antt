@@ -1,13 +1,8 @@
 -- Numbers, bools and pointers are read back from their bytes.
-use Rattle.std.proofs.Common.{◌≡◌, ℕ, zero, suc, ◌+◌, ◌*◌, ◌/◌, ◌%◌, ◌^◌, ◌<◌, true, List, [], ◌∷◌, Option, Some, None, refl, ap, ◌∙◌, arith}
-use Rattle.std.proofs.lemmas.Bool.Decides.{nat_tests}
-use Rattle.std.specs.Prelude.{◌&&◌, if◌then◌else◌, option_map}
-use Rattle.mr_base.specs.declared.byte.AllocId.{AllocId}
-use Rattle.mr_base.specs.declared.byte.Pointer.{Pointer}
-use Rattle.mr_runs.specs.Numbers.{with_provenance}
-use Rattle.mr_value.specs.Numbers.{number_of, little_endian, all_have, shared_provenance, pointer, pointer_of, pointer_bytes}
-use Rattle.mr_value.proofs.Digits.{more_byte}
+use Rattle.mr_value.proofs.Common.{◌≡◌, ℕ, zero, suc, ◌+◌, ◌*◌, ◌/◌, ◌%◌, ◌^◌, ◌<◌, true, List, [], ◌∷◌, Option, Some, None, refl, ap, ◌∙◌, arith, nat_tests, ◌&&◌, if◌then◌else◌, option_map, AllocId, Pointer, with_provenance, number_of, little_endian, all_have, pointer, pointer_of, pointer_bytes}
+use Rattle.mr_value.specs.Numbers.{shared_provenance}
 use Rattle.mr_base.specs.Identities.{same_id}
+use Rattle.mr_value.proofs.Digits.{more_byte}
 
 pub number_back : (provenance : Option AllocId) (count n : ℕ) → n < 2 ^ (8 * count) → number_of (with_provenance provenance (little_endian count n)) ≡ Some n
 number_back provenance zero n p = let h : 0 ≡ n = omega arith in ap Some h

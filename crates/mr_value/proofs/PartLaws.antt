@@ -1,9 +1,6 @@
 -- Parts of a list of bytes.
-use Rattle.std.proofs.Common.{◌≡◌, ℕ, zero, suc, ◌+◌, ◌-◌, ◌<◌, ◌≤◌, [], ◌∷◌, ◌++◌, take, drop, Some, refl, ap, ◌∙◌, arith}
-use Rattle.std.specs.Prelude.{slice_get}
-use Rattle.std.proofs.lemmas.List.{drop-drop, take-take, drop-take}
-use Rattle.mr_base.specs.declared.byte.AbstractByte.{AbstractByte}
-use Rattle.mr_value.specs.Numbers.{Bytes, part}
+use Rattle.mr_value.proofs.Common.{◌≡◌, ℕ, zero, suc, ◌+◌, ◌-◌, ◌<◌, ◌≤◌, [], ◌∷◌, ◌++◌, take, drop, Some, refl, ap, ◌∙◌, arith, slice_get, drop-drop, AbstractByte, Bytes, part}
+use Rattle.std.proofs.lemmas.List.{take-take, drop-take}
 use Rattle.mr_base.proofs.Lists.{slice_get-drop}
 
 step : (b : Bytes) (at len : ℕ) (x : AbstractByte) → slice_get b at ≡ Some x → take (suc len) (drop at b) ≡ x ∷ take len (drop (suc at) b)

@@ -1,16 +1,6 @@
 -- Bytes into which pieces are written, each at its offset.
-use Rattle.std.proofs.Common.{◌≡◌, ℕ, ◌+◌, ◌-◌, ◌<◌, ◌≤◌, ◌⊎◌, ⊎_elim, Bool, true, false, List, [], ◌∷◌, ◌++◌, length, get_or, take, drop, refl, ap, ◌∙◌, arith, length-append, length-take}
-use Rattle.std.proofs.lemmas.Bool.Decides.{nat_tests}
-use Rattle.std.proofs.lemmas.List.{get_or-take, get_or-drop, get_or_append_left, get_or-append_right}
-use Rattle.std.specs.Prelude.{◌||◌}
-use Rattle.std.proofs.lemmas.Bool.{or_parts}
-use Rattle.mr_base.specs.declared.byte.AbstractByte.{AbstractByte}
-use Rattle.mr_base.specs.declared.byte.AbstractByte.TheVariants.{Uninit}
+use Rattle.mr_value.proofs.Common.{◌≡◌, ℕ, ◌+◌, ◌-◌, ◌<◌, ◌≤◌, ◌⊎◌, ⊎_elim, Bool, true, false, List, [], ◌∷◌, ◌++◌, length, get_or, take, drop, refl, ap, ◌∙◌, arith, length-append, length-take, nat_tests, get_or-take, get_or-drop, get_or_append_left, get_or-append_right, ◌||◌, or_parts, AbstractByte, Uninit, is_in, with_range_replaced, length-with_range_replaced, Bytes}
 use Rattle.mr_base.specs.Pairs.{is_meeting}
-use Rattle.mr_layout.specs.Used.{is_in}
-use Rattle.mr_runs.specs.Ranges.{with_range_replaced}
-use Rattle.mr_runs.proofs.RangeLaws.{length-with_range_replaced}
-use Rattle.mr_value.specs.Numbers.{Bytes}
 
 -- the byte at an offset; past the end none is initialised
 abbrev pub byte_at : Bytes → ℕ → AbstractByte

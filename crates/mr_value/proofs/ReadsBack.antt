@@ -1,41 +1,15 @@
 -- Bytes that hold what a type uses of a value's encoding mean that value, where it is faithful.
-use Rattle.std.proofs.Common.{◌≡◌, ℕ, zero, suc, ◌+◌, ◌-◌, ◌*◌, ◌%◌, ◌^◌, ◌<◌, ◌≤◌, ⊎_elim, Bool, true, false, List, [], ◌∷◌, ◌++◌, length, take, drop, Option, Some, None, refl, sym, subst, ap, ◌∙◌, arith, length-take, length-drop}
-use Rattle.std.proofs.lemmas.Bool.Decides.{nat_tests}
-use Rattle.std.proofs.lemmas.List.{get_or-take, get_or-drop, get_or_past, get_or_append_left, get_or-append_right, ext_get_or, length-replicate, take-append-drop}
+use Rattle.mr_value.proofs.Common.{◌≡◌, ℕ, zero, suc, ◌+◌, ◌-◌, ◌*◌, ◌%◌, ◌^◌, ◌<◌, ◌≤◌, ⊎_elim, Bool, true, false, List, [], ◌∷◌, ◌++◌, length, take, drop, Option, Some, None, refl, sym, subst, ap, ◌∙◌, arith, length-take, length-drop, nat_tests, get_or-take, get_or-drop, get_or_past, get_or_append_left, get_or-append_right, length-replicate, not, ◌&&◌, ◌||◌, nat_lt, nat_le, if◌then◌else◌, option_map, option_and_then, and_parts, or_parts, Num, Tag, Ty, Variant, AllFields, AllVariants, TypeCases, type_induction, Uninit, Init, Pointer, same_num, is_some_used, are_tags, are_all_tags, FieldsOk, ChunksInside, VariantsOk, meets_any, is_overlapping, meets_chunk, is_chunk_overlapping, size_of, int_size, TypeOk, is_in, is_in_part, is_in_chunk, is_in_tag, is_used, is_used_variant, is_used_field, is_used_in, tuple_parts, array_part, union_parts, enum_parts, size_int, size_bool, size_raw, size_fn_ptr, size_ref, size_tuple, size_array, size_union, size_enum, with_range_replaced, length-with_range_replaced, with_provenance, Val, Bytes, part, number_of, little_endian, pointer_bytes, walk, bool_of, pointer_where, is_not_null, is_aligned, elements_in, chunks_in, decoded, read_fields, read_variant, blank, element_bytes, with_chunks, with_tags, encoding_of, write_fields, write_variant, is_found, is_faithful, fields_faithful, variant_faithful, chunks_size, elements_pass, has_shape, fields_have_shape, variant_has_shape, below_or, eq_from, lt_test}
+use Rattle.std.proofs.lemmas.List.{ext_get_or, take-append-drop}
 use Rattle.std.proofs.Math.Nat.{mod-eq_of_lt, add-mod_left}
-use Rattle.std.specs.Prelude.{not, ◌&&◌, ◌||◌, nat_lt, nat_le, if◌then◌else◌, option_map, option_and_then}
-use Rattle.std.proofs.lemmas.Bool.{and_parts, or_parts, or_left, or_right}
-use Rattle.mr_ast.specs.declared.types.Num.{Num}
-use Rattle.mr_ast.specs.declared.types.Tag.{Tag}
-use Rattle.mr_ast.specs.declared.types.Ty.{Ty}
-use Rattle.mr_ast.specs.declared.types.Ty.TheVariants as ty
-use Rattle.mr_ast.specs.declared.types.Variant.{Variant}
-use Rattle.mr_ast.proofs.TypeInduction.{AllFields, AllVariants, TypeCases, type_induction}
-use Rattle.mr_base.specs.declared.byte.AbstractByte.TheVariants.{Uninit, Init}
-use Rattle.mr_base.specs.declared.byte.Pointer.{Pointer}
-use Rattle.mr_layout.specs.EnumRules.{same_num, is_some_used, are_tags, are_all_tags}
-use Rattle.mr_layout.proofs.PartFacts.{FieldsOk, ChunksInside, VariantsOk}
-use Rattle.mr_layout.specs.Rules.{meets_any, is_overlapping, meets_chunk, is_chunk_overlapping}
-use Rattle.mr_layout.specs.Sizes.{size_of}
-use Rattle.mr_ast.specs.Integers.{int_size}
-use Rattle.mr_layout.specs.TypeOk.{TypeOk}
-use Rattle.mr_layout.specs.Used.{is_in, is_in_part, is_in_chunk, is_in_tag, is_used, is_used_variant, is_used_field, is_used_in}
-use Rattle.mr_layout.proofs.PartsOk.{tuple_parts, array_part, union_parts, enum_parts}
-use Rattle.mr_layout.proofs.SizeLaws.{size_int, size_bool, size_raw, size_fn_ptr, size_ref, size_tuple, size_array, size_union, size_enum}
+use Rattle.std.proofs.lemmas.Bool.{or_left, or_right}
 use Rattle.mr_layout.proofs.UsedLaws.{used_int, used_bool, used_raw, used_fn_ptr, used_ref, used_tuple, used_array, used_union, used_enum, used_variant_is}
-use Rattle.mr_runs.specs.Ranges.{with_range_replaced}
-use Rattle.mr_runs.proofs.RangeLaws.{length-with_range_replaced}
-use Rattle.mr_runs.specs.Numbers.{with_provenance}
-use Rattle.mr_value.specs.declared.val.Val.{Val}
+use Rattle.mr_base.proofs.Comparisons.{lt_from}
+use Rattle.mr_layout.proofs.TreeOk.{same_num_equal}
+use Rattle.mr_ast.specs.ShapedTypes.{fits_u64}
+use Rattle.mr_ast.specs.declared.types.Ty.TheVariants as ty
 use Rattle.mr_value.specs.declared.val.Val.TheVariants as val
-use Rattle.mr_value.specs.Numbers.{Bytes, part, number_of, little_endian, pointer_bytes}
-use Rattle.mr_value.specs.Discriminants.{walk}
-use Rattle.mr_value.specs.Decode.{bool_of, pointer_where, is_not_null, is_aligned, elements_in, chunks_in, decoded, read_fields, read_variant}
-use Rattle.mr_value.specs.Encode.{blank, element_bytes, with_chunks, with_tags, encoding_of, write_fields, write_variant}
-use Rattle.mr_value.specs.Faithful.{is_found, is_faithful, fields_faithful, variant_faithful}
-use Rattle.mr_value.specs.Shape.{chunks_size, elements_pass, has_shape, fields_have_shape, variant_has_shape}
 use Rattle.mr_value.proofs.ApartParts.{tuple_apart, union_apart}
-use Rattle.mr_base.proofs.Comparisons.{below_or, eq_from, lt_from, lt_test}
 use Rattle.mr_value.proofs.DecodeLaws.{decode_int, decode_bool, decode_raw, decode_fn_ptr, decode_ref, decode_tuple, decode_array, decode_union, decode_enum}
 use Rattle.mr_value.proofs.DecodeShape.{length-part}
 use Rattle.mr_value.proofs.EncodeBlank.{unused_is_blank}
@@ -48,8 +22,6 @@ use Rattle.mr_value.proofs.Pieces.{byte_at, byte_outside, byte_of_piece}
 use Rattle.mr_value.proofs.ShapeLaws.{shape_int, shape_bool, shape_raw, shape_fn_ptr, shape_ref, shape_tuple, shape_array, shape_union, shape_enum}
 use Rattle.mr_value.proofs.TagParts.{enum_tags, first_tag}
 use Rattle.mr_value.proofs.WalkSame.{Holds, uninit_init, walk_same}
-use Rattle.mr_layout.proofs.TreeOk.{same_num_equal}
-use Rattle.mr_ast.specs.ShapedTypes.{fits_u64}
 
 -- the bytes that the type uses are the same
 abbrev pub Agrees : Ty → Bytes → Bytes → Type 0

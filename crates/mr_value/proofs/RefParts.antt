@@ -1,17 +1,10 @@
 -- The alignment of a reference that breaks no rule isn't 0.
-use Rattle.std.proofs.Common.{◌≡◌, ℕ, ◌<◌, ◌^◌, Bool, true, None, sym, ◌∙◌, arith}
-use Rattle.std.specs.Prelude.{not, nat_lt, nat_le, ◌==◌}
+use Rattle.mr_value.proofs.Common.{◌≡◌, ℕ, ◌<◌, ◌^◌, Bool, true, None, sym, ◌∙◌, arith, not, nat_lt, nat_le, ◌==◌, and_parts, TypeSize, TypeAlign, is_align, is_ok, rule_none, ok_of, eq_from, not_false}
 use Rattle.std.specs.Int.RustNames.{count_ones}
 use Rattle.std.proofs.lemmas.Nat.{ones_le_self}
-use Rattle.std.proofs.lemmas.Bool.{and_parts}
-use Rattle.mr_ast.specs.declared.rule.Rule.TheVariants.{TypeSize, TypeAlign}
-use Rattle.mr_ast.specs.declared.types.Ty.TheVariants as ty
-use Rattle.mr_layout.specs.Rules.{is_align, ref_rules}
-use Rattle.mr_layout.specs.Parts.{is_ok}
+use Rattle.mr_layout.specs.Rules.{ref_rules}
 use Rattle.mr_layout.proofs.BrokenLaws.{broken_ref}
-use Rattle.mr_layout.proofs.Bounds.{rule_none}
-use Rattle.mr_layout.proofs.OkTests.{ok_of}
-use Rattle.mr_base.proofs.Comparisons.{eq_from, not_false}
+use Rattle.mr_ast.specs.declared.types.Ty.TheVariants as ty
 
 align_positive : (size align : ℕ) → ref_rules size align ≡ None → 0 < align
 unfolding ref_rules

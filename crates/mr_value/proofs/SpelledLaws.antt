@@ -1,22 +1,16 @@
 -- What bytes spell, piece by piece.
-use Rattle.std.proofs.Common.{◌≡◌, ℕ, zero, suc, ◌+◌, ◌-◌, ◌*◌, ◌%◌, ◌^◌, ◌<◌, ◌≤◌, Bool, true, false, ◌&&◌, List, [], ◌∷◌, ◌++◌, length, get_or, replicate, take, drop, Option, Some, None, refl, sym, ap, ◌∙◌, subst, arith, length-append}
-use Rattle.std.specs.Prelude.{if◌then◌else◌, option_map, slice_get}
-use Rattle.std.proofs.lemmas.Bool.Decides.{nat_tests}
-use Rattle.std.proofs.lemmas.List.{take_all, take_more}
+use Rattle.mr_value.proofs.Common.{◌≡◌, ℕ, zero, suc, ◌+◌, ◌-◌, ◌*◌, ◌%◌, ◌^◌, ◌<◌, ◌≤◌, Bool, true, false, ◌&&◌, List, [], ◌∷◌, ◌++◌, length, get_or, take, drop, Option, Some, None, refl, sym, ap, ◌∙◌, subst, arith, length-append, if◌then◌else◌, option_map, slice_get, nat_tests, take_all, take_more, AllocId, Uninit, Init, SeenPiece, InitPiece, bytes_of_pieces, with_provenance, Bytes, number_of, all_have}
+use Rattle.std.proofs.Common.{replicate}
 use Rattle.std.proofs.Math.Pow.{pow_mono}
-use Rattle.mr_base.specs.declared.byte.AllocId.{AllocId}
-use Rattle.mr_base.specs.declared.byte.AbstractByte.TheVariants.{Uninit, Init}
-use Rattle.mr_runs.specs.Pieces.{SeenPiece, UninitPiece, InitPiece, bytes_of_piece, bytes_of_pieces, piece_len, AreMaximal}
+use Rattle.mr_runs.specs.Pieces.{UninitPiece, bytes_of_piece, piece_len, AreMaximal}
 use Rattle.mr_runs.proofs.PlacedLaws.{length-bytes_of_piece}
-use Rattle.mr_runs.specs.Numbers.{with_provenance}
 use Rattle.mr_value.specs.declared.numbers.Sharing.{Sharing}
 use Rattle.mr_value.specs.declared.numbers.Sharing.TheVariants.{Any, One, Differ}
 use Rattle.mr_value.specs.declared.numbers.Spelled.{Spelled}
-use Rattle.mr_value.specs.Numbers.{Bytes, number_of, all_have}
 use Rattle.mr_value.specs.Spelled.{initial_number, shared_in, shares, sharing_behind, Spells}
+use Rattle.mr_base.specs.Identities.{same_id}
 use Rattle.mr_value.proofs.Digits.{byte_fits}
 use Rattle.mr_value.proofs.NumbersBack.{id_itself}
-use Rattle.mr_base.specs.Identities.{same_id}
 
 -- ---- numbers
 

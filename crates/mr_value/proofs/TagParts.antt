@@ -1,21 +1,10 @@
 -- The tags of an enum that breaks no rule.
-use Rattle.std.proofs.Common.{◌≡◌, ℕ, ◌+◌, ◌%◌, ◌≤◌, true, false, List, ◌∷◌, None, sym, ◌∙◌}
-use Rattle.std.specs.Prelude.{nat_le, not, ◌==◌}
-use Rattle.std.proofs.lemmas.Bool.{and_parts}
-use Rattle.mr_ast.specs.declared.rule.Rule.TheVariants.{TypeSize, TypeAlign, SizeMultiple, EnumVariant, EnumTag}
-use Rattle.mr_ast.specs.declared.types.IntType.{IntType}
-use Rattle.mr_ast.specs.declared.types.Tag.{Tag}
-use Rattle.mr_ast.specs.declared.types.Tree.{Tree}
-use Rattle.mr_ast.specs.declared.types.Ty.{Ty}
-use Rattle.mr_ast.specs.declared.types.Ty.TheVariants as ty
-use Rattle.mr_ast.specs.declared.types.Variant.{Variant}
-use Rattle.mr_ast.specs.Integers.{int_size, is_fitting}
-use Rattle.mr_layout.specs.Rules.{is_large, is_align}
-use Rattle.mr_layout.specs.EnumRules.{are_variants, meets_tag, is_some_used, are_tags, are_all_tags, enum_rules}
-use Rattle.mr_layout.specs.TypeOk.{TypeOk, first_broken_variant}
+use Rattle.mr_value.proofs.Common.{◌≡◌, ℕ, ◌+◌, ◌%◌, ◌≤◌, true, false, List, ◌∷◌, None, sym, ◌∙◌, nat_le, not, ◌==◌, and_parts, TypeSize, TypeAlign, SizeMultiple, IntType, Tag, Tree, Ty, Variant, int_size, is_fitting, is_large, is_align, is_some_used, are_tags, are_all_tags, TypeOk, or_else_none, rule_none, le_from, not_false, not_true}
+use Rattle.mr_ast.specs.declared.rule.Rule.TheVariants.{EnumVariant, EnumTag}
+use Rattle.mr_layout.specs.EnumRules.{are_variants, meets_tag, enum_rules}
+use Rattle.mr_layout.specs.TypeOk.{first_broken_variant}
 use Rattle.mr_layout.proofs.BrokenLaws.{broken_enum}
-use Rattle.mr_layout.proofs.Bounds.{or_else_none, rule_none}
-use Rattle.mr_base.proofs.Comparisons.{le_from, not_false, not_true}
+use Rattle.mr_ast.specs.declared.types.Ty.TheVariants as ty
 
 tags_of_rules : (size align : ℕ) (disc : IntType) (variants : List Variant) (tree : Tree) → enum_rules size align disc variants tree ≡ None → are_all_tags size variants ≡ true
 unfolding enum_rules

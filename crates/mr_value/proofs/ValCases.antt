@@ -1,12 +1,9 @@
 -- A value is made of its layer.
-use Rattle.std.proofs.Common.{◌≡◌, ℕ, Bool, List, sym, subst, ap, ◌∙◌}
-use Rattle.mr_ast.specs.declared.types.Num.{Num}
-use Rattle.mr_base.specs.declared.byte.Pointer.{Pointer}
-use Rattle.mr_base.specs.declared.byte.AbstractByte.{AbstractByte}
-use Rattle.mr_value.specs.declared.val.Val.{Val, roll-Val, out-Val}
-use Rattle.mr_value.specs.declared.val.Val.TheVariants as val
+use Rattle.mr_value.proofs.Common.{◌≡◌, ℕ, Bool, List, sym, subst, ap, ◌∙◌, Num, Pointer, AbstractByte, Val, out-Val}
+use Rattle.mr_value.specs.declared.val.Val.{roll-Val}
 use Rattle.mr_value.specs.declared.val.Val.TheOpen.{Val-F}
 use Rattle.mr_value.specs.declared.val.Val.TheFolds.{ind-Val}
+use Rattle.mr_value.specs.declared.val.Val.TheVariants as val
 
 abbrev IsMade : Val → Type 0
 IsMade v = roll-Val (out-Val v) ≡ v

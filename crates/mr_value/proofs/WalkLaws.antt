@@ -1,16 +1,10 @@
 -- The equations of `walk`, one for each kind of tree.
-use Rattle.std.proofs.Common.{◌≡◌, ℕ, Bool, true, false, List, [], ◌∷◌, Option, Some, None, map, refl, sym, ap, ◌∙◌}
-use Rattle.std.specs.Prelude.{if◌then◌else◌, option_and_then}
-use Rattle.mr_ast.specs.declared.types.IntType.{IntType}
-use Rattle.mr_ast.specs.declared.types.Num.{Num}
-use Rattle.mr_ast.specs.declared.types.Tree.{Tree, roll-Tree}
-use Rattle.mr_ast.specs.declared.types.Tree.TheVariants as tree
+use Rattle.mr_value.proofs.Common.{◌≡◌, ℕ, Bool, true, false, List, [], ◌∷◌, Option, Some, None, map, refl, sym, ap, ◌∙◌, if◌then◌else◌, option_and_then, IntType, Num, Tree, int_size, same_num, Bytes, part, number_of, number_of_bits, walk, walk_case}
+use Rattle.mr_ast.specs.declared.types.Tree.{roll-Tree}
 use Rattle.mr_ast.specs.declared.types.Tree.TheOpen.{Tree-F}
 use Rattle.mr_ast.specs.declared.types.Tree.TheFolds.{map-Tree, fold-roll-Tree}
-use Rattle.mr_ast.specs.Integers.{int_size}
-use Rattle.mr_layout.specs.EnumRules.{same_num}
-use Rattle.mr_value.specs.Numbers.{Bytes, part, number_of}
-use Rattle.mr_value.specs.Discriminants.{Walk, number_of_bits, chosen_case, walk_step, walk, walk_case}
+use Rattle.mr_value.specs.Discriminants.{Walk, chosen_case, walk_step}
+use Rattle.mr_ast.specs.declared.types.Tree.TheVariants as tree
 
 chosen_case_is : (n : Num) (cases : List (Num × Tree)) (rest : Tree) (b : Bytes) → chosen_case n (map (λ c. (c.0, walk c.1)) cases) (walk rest) b ≡ walk_case n cases rest b
 chosen_case_is n [] rest b = refl

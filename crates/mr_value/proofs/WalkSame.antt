@@ -1,20 +1,7 @@
 -- A walk that finds a discriminant finds it in any bytes of the same length that hold what was initialised.
-use Rattle.std.proofs.Common.{◌≡◌, ℕ, suc, ◌+◌, ◌*◌, ◌%◌, ◌<◌, ◌≤◌, Bool, true, false, List, [], ◌∷◌, ⊎_elim, length, drop, Option, Some, None, refl, sym, ap, ◌∙◌, arith, length-take, length-drop}
-use Rattle.std.proofs.lemmas.List.{get_or-take, get_or-drop, get_or_past}
-use Rattle.std.specs.Prelude.{if◌then◌else◌, option_map, option_and_then}
-use Rattle.mr_ast.specs.declared.types.Num.{Num}
-use Rattle.mr_ast.specs.declared.types.Tree.{Tree}
-use Rattle.mr_base.specs.declared.byte.AllocId.{AllocId}
-use Rattle.mr_base.specs.declared.byte.AbstractByte.{AbstractByte}
-use Rattle.mr_base.specs.declared.byte.AbstractByte.TheVariants.{Uninit, Init}
-use Rattle.mr_ast.specs.Integers.{int_size}
-use Rattle.mr_layout.specs.EnumRules.{same_num}
-use Rattle.mr_value.specs.Numbers.{Bytes, part, number_of}
-use Rattle.mr_value.specs.Discriminants.{number_of_bits, walk, walk_case}
-use Rattle.mr_base.proofs.Comparisons.{below_or}
-use Rattle.mr_base.proofs.Options.{mapped, followed}
-use Rattle.mr_value.proofs.Pieces.{byte_at}
+use Rattle.mr_value.proofs.Common.{◌≡◌, ℕ, suc, ◌+◌, ◌*◌, ◌%◌, ◌<◌, ◌≤◌, Bool, true, false, List, [], ◌∷◌, ⊎_elim, length, drop, Option, Some, None, refl, sym, ap, ◌∙◌, arith, length-take, length-drop, get_or-take, get_or-drop, get_or_past, if◌then◌else◌, option_map, option_and_then, Num, Tree, AllocId, AbstractByte, Uninit, Init, int_size, same_num, Bytes, part, number_of, number_of_bits, walk, walk_case, below_or, mapped, followed}
 use Rattle.mr_ast.proofs.TreeInduction.{AllCases, TreeCases, tree_induction}
+use Rattle.mr_value.proofs.Pieces.{byte_at}
 use Rattle.mr_value.proofs.WalkLaws.{walk_known, walk_invalid, walk_branch}
 
 -- each initialised byte of the one stands in the other, too

@@ -1,18 +1,8 @@
 -- A branch of a tree that breaks no rule: its parts break none, and it reads inside.
-use Rattle.std.proofs.Common.{◌≡◌, ℕ, zero, suc, ◌+◌, ◌<◌, ◌≤◌, true, List, [], ◌∷◌, length, get_or, sym, ap, ◌∙◌, arith}
-use Rattle.std.specs.Prelude.{not, nat_le, option_and_then}
-use Rattle.std.proofs.lemmas.Bool.{and_parts}
-use Rattle.mr_ast.specs.declared.types.IntType.{IntType}
-use Rattle.mr_ast.specs.declared.types.Num.{Num}
-use Rattle.mr_ast.specs.declared.types.Tree.{Tree}
-use Rattle.mr_ast.specs.declared.types.Tree.TheVariants as tree
-use Rattle.mr_ast.specs.declared.types.Variant.{Variant}
-use Rattle.mr_ast.specs.Integers.{int_size, is_fitting}
-use Rattle.mr_layout.specs.EnumRules.{is_case, is_tree, are_tree_cases}
+use Rattle.mr_value.proofs.Common.{◌≡◌, ℕ, zero, suc, ◌+◌, ◌<◌, ◌≤◌, true, List, [], ◌∷◌, length, get_or, sym, ap, ◌∙◌, arith, not, nat_le, option_and_then, and_parts, IntType, Num, Tree, Variant, int_size, is_fitting, is_tree, are_tree_cases, Bytes, part, number_of, number_of_bits, walk, walk_case, le_from}
+use Rattle.mr_layout.specs.EnumRules.{is_case}
 use Rattle.mr_layout.proofs.TreeLaws.{tree_branch}
-use Rattle.mr_value.specs.Numbers.{Bytes, part, number_of}
-use Rattle.mr_value.specs.Discriminants.{number_of_bits, walk, walk_case}
-use Rattle.mr_base.proofs.Comparisons.{le_from}
+use Rattle.mr_ast.specs.declared.types.Tree.TheVariants as tree
 use Rattle.mr_value.proofs.PartLaws.{part_part}
 use Rattle.mr_value.proofs.WalkLaws.{walk_branch}
 

@@ -1,17 +1,11 @@
 -- A part of a type or a tree weighs less than the whole, by which recursions end.
-use Rattle.std.proofs.Common.{◌≡◌, ℕ, zero, suc, ◌+◌, ◌<◌, List, [], ◌∷◌, map, length, get_or, refl, sym, ap, ◌∙◌, arith}
-use Rattle.mr_ast.specs.declared.types.IntType.{IntType}
-use Rattle.mr_ast.specs.declared.types.Num.{Num}
-use Rattle.mr_ast.specs.declared.types.Tree.{Tree}
-use Rattle.mr_ast.specs.declared.types.Tree.TheVariants as tree
+use Rattle.mr_value.proofs.Common.{◌≡◌, ℕ, zero, suc, ◌+◌, ◌<◌, List, [], ◌∷◌, map, length, get_or, refl, sym, ap, ◌∙◌, arith, IntType, Num, Tree, Ty, Ty-F, Variant, out-Variant, weight_of}
 use Rattle.mr_ast.specs.declared.types.Tree.TheOpen.{Tree-F}
 use Rattle.mr_ast.specs.declared.types.Tree.TheFolds.{fold-Tree, fold-roll-Tree}
-use Rattle.mr_ast.specs.declared.types.Ty.{Ty}
-use Rattle.mr_ast.specs.declared.types.Ty.TheVariants as ty
-use Rattle.mr_ast.specs.declared.types.Ty.TheOpen.{Ty-F}
 use Rattle.mr_ast.specs.declared.types.Ty.TheFolds.{fold-Variant, fold-roll-Ty, fold-roll-Variant}
-use Rattle.mr_ast.specs.declared.types.Variant.{Variant, out-Variant}
-use Rattle.mr_ast.specs.Weight.{variants_sum, weight_step, weight_of}
+use Rattle.mr_ast.specs.Weight.{variants_sum, weight_step}
+use Rattle.mr_ast.specs.declared.types.Tree.TheVariants as tree
+use Rattle.mr_ast.specs.declared.types.Ty.TheVariants as ty
 
 pub weight_array : (count : ℕ) (elem : Ty) → weight_of (ty.Array count elem) ≡ 1 + weight_of elem
 unfolding weight_of

@@ -1,20 +1,13 @@
 -- What follows of an answer for the walk that goes on behind it.
-use Rattle.std.proofs.Common.{◌≡◌, ℕ, suc, ◌+◌, ◌<◌, ◌≤◌, List, [], ◌∷◌, ◌++◌, length, drop, get_or, Option, Result, Ok, Err, refl, sym, ap, subst, ◌∙◌, arith, append_assoc, append-nil}
-use Rattle.std.proofs.lemmas.List.{drop_all, drop_more}
-use Rattle.mr_ast.specs.declared.rule.Rule.{Rule}
-use Rattle.mr_ast.specs.declared.program.BlockName.{BlockName}
-use Rattle.mr_ast.specs.declared.expr.Value.{Value}
-use Rattle.mr_ast.specs.declared.types.Ty.{Ty}
+use Rattle.mr_wf.proofs.Common.{◌≡◌, ℕ, suc, ◌+◌, ◌<◌, ◌≤◌, List, [], ◌∷◌, ◌++◌, length, drop, get_or, Option, Result, Ok, Err, refl, sym, ap, subst, ◌∙◌, arith, append_assoc, drop_more, Rule, BlockName, Value, Ty, Surroundings, ◌>>=◌, judged_value, judged_values, Judged, Walked, ◌then◌, each_walked, placed, Gives, Stops, Walks}
+use Rattle.std.proofs.Common.{append-nil}
+use Rattle.std.proofs.lemmas.List.{drop_all}
 use Rattle.mr_typing.specs.declared.fault.Item.{Item}
-use Rattle.mr_typing.specs.Broken.{Surroundings}
-use Rattle.mr_typing.specs.Judging.{◌>>=◌, judged_value, judged_values}
-use Rattle.mr_typing.specs.JudgingBlocks.{Judged}
 use Rattle.mr_wf.specs.declared.fault.Broken.{Broken}
-use Rattle.mr_wf.specs.declared.fault.Broken.TheVariants as why
 use Rattle.mr_wf.specs.declared.fault.Stopped.{Stopped}
+use Rattle.mr_wf.specs.Gives.{placing}
+use Rattle.mr_wf.specs.declared.fault.Broken.TheVariants as why
 use Rattle.mr_wf.specs.declared.fault.Stopped.TheVariants as stopped
-use Rattle.mr_wf.specs.JudgingPrograms.{Walked, ◌then◌, each_walked, placed}
-use Rattle.mr_wf.specs.Gives.{Gives, Stops, Walks, placing}
 
 -- ---- the types of values
 

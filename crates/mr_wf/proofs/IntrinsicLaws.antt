@@ -1,18 +1,15 @@
 -- Atomic integers, and an intrinsic that takes four arguments or more.
-use Rattle.std.proofs.Common.{◌≡◌, ◌≤◌, ℕ, List, [], ◌∷◌, length, Some, refl, ap, ◌∙◌, arith}
-use Rattle.std.specs.Prelude.{◌&&◌, Option, is_some, nat_le}
+use Rattle.mr_wf.proofs.Common.{◌≡◌, ◌≤◌, ℕ, List, [], ◌∷◌, length, Some, refl, ap, ◌∙◌, arith, ◌&&◌, Option, nat_le, Ty, is_scalar_number, integer_of}
+use Rattle.std.specs.Prelude.{is_some}
 use Rattle.std.specs.List.{list_all}
 use Rattle.mr_ast.specs.declared.program.Intrinsic.{Intrinsic}
-use Rattle.mr_ast.specs.declared.program.Intrinsic.TheVariants as intrinsic
 use Rattle.mr_ast.specs.declared.types.IntType.{IntType}
-use Rattle.mr_ast.specs.declared.types.Ty.{Ty}
 use Rattle.mr_ast.specs.Integers.{int_size}
 use Rattle.mr_layout.specs.Sizes.{size_of}
 use Rattle.mr_layout.proofs.SizeLaws.{size_int}
-use Rattle.mr_typing.specs.Operands.{is_scalar_number}
 use Rattle.mr_typing.specs.Intrinsics.{fits_intrinsic, gives_nothing, is_atomic, is_print}
-use Rattle.mr_typing.specs.Types.{integer_of}
 use Rattle.mr_typing.proofs.KindLaws.{integer_is}
+use Rattle.mr_ast.specs.declared.program.Intrinsic.TheVariants as intrinsic
 
 pub atomic_told : (t : Ty) (i : IntType) → integer_of t ≡ Some i → is_atomic t ≡ nat_le (int_size i) 8
 atomic_told t i is =

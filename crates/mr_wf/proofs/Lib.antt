@@ -1,3 +1,4 @@
+mod Common
 pub mod GivesLaws
 pub mod IntrinsicLaws
 pub mod ListedLaws

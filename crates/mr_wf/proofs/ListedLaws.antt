@@ -1,40 +1,32 @@
 -- What follows from the list of a function's types: each type is that of what it is listed for, whatever is listed behind it.
-use Rattle.std.proofs.Common.{◌≡◌, ℕ, zero, suc, ◌+◌, ◌<◌, Bool, true, false, true≢false, List, [], ◌∷◌, ◌++◌, length, map, drop, get_or, Option, None, Some, Result, Ok, Err, inl, inr, refl, sym, ap, subst, ◌∙◌, Bor}
-use Rattle.std.specs.Prelude.{◌&&◌, if◌then◌else◌, slice_get, option_copied}
+use Rattle.mr_wf.proofs.Common.{◌≡◌, ℕ, zero, suc, ◌+◌, ◌<◌, Bool, true, false, List, [], ◌∷◌, ◌++◌, length, map, drop, get_or, Option, None, Some, Result, Ok, Err, refl, sym, ap, subst, ◌∙◌, ◌&&◌, slice_get, drop_more, Rule, Num, Ty, Place, Value, LocalName, chained, element_type, field_type, type_of_place, variant_type, is_int, match_element, Surroundings, ◌>>=◌, judged_place, judged_value, judged_values, kept, sound_type, there, AlikeValue, AlikeValues, AreClasses, AreListed, HasType, IsWhole}
+use Rattle.std.proofs.Common.{true≢false, inl, inr, Bor}
+use Rattle.std.specs.Prelude.{if◌then◌else◌, option_copied}
 use Rattle.std.specs.Option.{option_map}
 use Rattle.std.proofs.lemmas.Bool.{or_parts}
-use Rattle.std.proofs.lemmas.List.{drop_more}
 use Rattle.std.proofs.lemmas.Option.{none-some, same_Some, slice_get-get_or, slice_get-map}
-use Rattle.mr_ast.specs.declared.rule.Rule.{Rule}
-use Rattle.mr_ast.specs.declared.rule.Rule.TheVariants as form
 use Rattle.mr_ast.specs.declared.types.IntType.TheVariants.{U64}
-use Rattle.mr_ast.specs.declared.types.Num.{Num}
-use Rattle.mr_ast.specs.declared.types.Ty.{Ty}
 use Rattle.mr_ast.specs.declared.types.Variant.{Variant}
-use Rattle.mr_ast.specs.declared.expr.Place.{Place}
-use Rattle.mr_ast.specs.declared.expr.Value.{Value}
-use Rattle.mr_ast.specs.declared.expr.Place.TheVariants as place
-use Rattle.mr_ast.specs.declared.expr.Value.TheVariants as value
 use Rattle.mr_ast.specs.declared.program.Local.{Local}
-use Rattle.mr_ast.specs.declared.program.LocalName.{LocalName}
 use Rattle.mr_ast.proofs.ExprInduction.{ExprCases, place_induction}
 use Rattle.mr_ast.proofs.NameLaws.{push_cases}
 use Rattle.mr_layout.specs.Alike.{number_twice}
 use Rattle.mr_layout.specs.EnumRules.{is_number_of, same_num}
 use Rattle.mr_layout.proofs.TreeOk.{same_num_equal}
-use Rattle.mr_typing.specs.Types.{chained, element_type, field_type, type_of_place, variant_among, variant_type}
+use Rattle.mr_typing.specs.Types.{variant_among}
 use Rattle.mr_typing.specs.SameTypes.{same_type}
-use Rattle.mr_typing.specs.Operands.{is_int, is_pointer, match_element}
-use Rattle.mr_typing.specs.Broken.{Surroundings}
-use Rattle.mr_typing.specs.Judging.{◌>>=◌, judged_place, judged_value, judged_values, kept, sound_type, there}
+use Rattle.mr_typing.specs.Operands.{is_pointer}
 use Rattle.mr_typing.proofs.JudgedLaws.{judged_deref, judged_field, judged_index, judged_load, judged_local_there, judged_variant_place}
 use Rattle.mr_typing.proofs.SameTypeLaws.{same_num_itself, same_type_equal, same_type_itself}
 use Rattle.mr_typing.proofs.TypeLaws.{type_of_deref, type_of_field, type_of_index, type_of_local, type_of_variant_place}
 use Rattle.mr_wf.specs.declared.listing.Listed.{Listed}
 use Rattle.mr_wf.specs.declared.listing.Origin.{Origin}
-use Rattle.mr_wf.specs.declared.listing.Origin.TheVariants as origin
 use Rattle.mr_wf.specs.declared.listing.Types.{Types}
-use Rattle.mr_wf.specs.Listed.{AlikeSome, AlikeValue, AlikeValues, AreClasses, AreListed, AreTypes, HasType, IsWhole, Lists, around, listed_at, origin_at, type_from}
+use Rattle.mr_wf.specs.Listed.{AlikeSome, AreTypes, Lists, around, listed_at, origin_at, type_from}
+use Rattle.mr_ast.specs.declared.rule.Rule.TheVariants as form
+use Rattle.mr_ast.specs.declared.expr.Place.TheVariants as place
+use Rattle.mr_ast.specs.declared.expr.Value.TheVariants as value
+use Rattle.mr_wf.specs.declared.listing.Origin.TheVariants as origin
 
 -- ---- one more in a list
 

@@ -1,24 +1,14 @@
 -- What the walk over a place comes to that has a type: only positions in arrays, and what it is behind, may be wrong.
-use Rattle.std.proofs.Common.{◌≡◌, ℕ, Option, None, Some, Result, Ok, Err, refl, sym, ap, subst, ◌∙◌}
+use Rattle.mr_wf.proofs.Common.{◌≡◌, ℕ, Option, None, Some, Result, Ok, Err, refl, sym, ap, subst, ◌∙◌, Rule, Num, Ty, Place, Value, LocalName, chained, element_type, field_type, type_of_place, variant_type, is_int, Surroundings, ◌>>=◌, judged_place, judged_value, kept, there, Gives, GivesWhereTyped, Stops}
 use Rattle.std.proofs.lemmas.Option.{none-some, same_Some}
-use Rattle.mr_ast.specs.declared.rule.Rule.{Rule}
-use Rattle.mr_ast.specs.declared.rule.Rule.TheVariants as form
 use Rattle.mr_ast.specs.declared.types.IntType.TheVariants.{U64}
-use Rattle.mr_ast.specs.declared.types.Num.{Num}
-use Rattle.mr_ast.specs.declared.types.Ty.{Ty}
-use Rattle.mr_ast.specs.declared.expr.Place.{Place}
-use Rattle.mr_ast.specs.declared.expr.Value.{Value}
-use Rattle.mr_ast.specs.declared.expr.Place.TheVariants as place
-use Rattle.mr_ast.specs.declared.program.LocalName.{LocalName}
-use Rattle.mr_typing.specs.Types.{chained, element_type, field_type, type_of_place, variant_type}
-use Rattle.mr_typing.specs.Operands.{is_int}
-use Rattle.mr_typing.specs.Broken.{Surroundings}
-use Rattle.mr_typing.specs.Judging.{◌>>=◌, judged_place, judged_position, judged_value, kept, there}
+use Rattle.mr_typing.specs.Judging.{judged_position}
 use Rattle.mr_typing.proofs.JudgedLaws.{judged_field, judged_index, judged_local_there, judged_variant_place}
 use Rattle.mr_typing.proofs.TypeLaws.{type_of_field, type_of_index, type_of_local, type_of_variant_place}
 use Rattle.mr_wf.specs.declared.fault.Broken.{Broken}
+use Rattle.mr_ast.specs.declared.rule.Rule.TheVariants as form
+use Rattle.mr_ast.specs.declared.expr.Place.TheVariants as place
 use Rattle.mr_wf.specs.declared.fault.Broken.TheVariants as why
-use Rattle.mr_wf.specs.Gives.{Gives, GivesWhereTyped, Stops}
 use Rattle.mr_wf.proofs.ListedLaws.{judged_typed}
 
 abbrev Answer : Type 0

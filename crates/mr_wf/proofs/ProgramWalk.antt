@@ -1,12 +1,7 @@
 -- The computed walk over a program gives its first fault, or none where there is none.
-use Rattle.std.proofs.Common.{◌≡◌, ℕ, suc, Bool, true, List, [], ◌∷◌, ◌++◌, length, Option, None, Some, All, Ok, Err, refl, sym, ap, subst, append_assoc}
-use Rattle.std.specs.Prelude.{slice_get}
+use Rattle.mr_wf.proofs.Common.{◌≡◌, ℕ, suc, Bool, true, List, [], ◌∷◌, ◌++◌, length, Option, None, Some, All, Ok, Err, refl, sym, ap, subst, append_assoc, slice_get, Rule, Block, BlockName, sizes_of, kept, sound_type, Judged, judged_stmt, Walked, ◌then◌, each_walked, judged_global, judged_items, placed, walked_block, walked_function, walked_global, walked_local, walked_stmt}
 use Rattle.std.specs.List.{flat_map}
 use Rattle.std.proofs.lemmas.List.Elements.{All-head, All-tail}
-use Rattle.mr_ast.specs.declared.rule.Rule.{Rule}
-use Rattle.mr_ast.specs.declared.rule.Rule.TheVariants as form
-use Rattle.mr_ast.specs.declared.program.Block.{Block}
-use Rattle.mr_ast.specs.declared.program.BlockName.{BlockName}
 use Rattle.mr_ast.specs.declared.program.Function.{Function}
 use Rattle.mr_ast.specs.declared.program.Global_.{Global_}
 use Rattle.mr_ast.specs.declared.program.Item_.{Item_}
@@ -15,15 +10,15 @@ use Rattle.mr_ast.specs.declared.program.Stmt.{Stmt}
 use Rattle.mr_ast.specs.Shaped.{Shaped, ShapedBlock, ShapedFunction, ShapedGlobal, ShapedLocal, is_shaped_stmt, named_in}
 use Rattle.mr_typing.specs.declared.fault.FormFault.{FormFault}
 use Rattle.mr_typing.specs.declared.fault.Item.{Item}
-use Rattle.mr_typing.specs.declared.fault.Item.TheVariants.{Static, Function as InFunction}
 use Rattle.mr_typing.specs.Blocks.{broken_in_stmt, broken_in_term}
-use Rattle.mr_typing.specs.Broken.{Rules, of_type, rule, sizes_of, surroundings}
-use Rattle.mr_typing.specs.Judging.{kept, sound_type}
-use Rattle.mr_typing.specs.JudgingBlocks.{Judged, judged_stmt, judged_term}
+use Rattle.mr_typing.specs.Broken.{Rules, of_type, rule, surroundings}
+use Rattle.mr_typing.specs.JudgingBlocks.{judged_term}
 use Rattle.mr_typing.specs.Walk.{FirstBroken, WellFormed, are_arguments, at_position, begins_regular, broken_in_global, each_at, faults_in_block, faults_in_function, faults_in_global, faults_in_local, faults_in_stmt, faults_of, is_global_form, is_main_form, is_target}
 use Rattle.mr_typing.proofs.Tells.{Any, Tells, tells_kept, tells_then, tells_type}
 use Rattle.mr_typing.proofs.StmtWalk.{stmt_told, term_told}
-use Rattle.mr_wf.specs.JudgingPrograms.{Walked, ◌then◌, each_walked, judged_global, judged_items, placed, walked, walked_block, walked_function, walked_global, walked_head, walked_local, walked_stmt}
+use Rattle.mr_wf.specs.JudgingPrograms.{walked, walked_head}
+use Rattle.mr_ast.specs.declared.rule.Rule.TheVariants as form
+use Rattle.mr_typing.specs.declared.fault.Item.TheVariants.{Static, Function as InFunction}
 
 -- ---- positions
 

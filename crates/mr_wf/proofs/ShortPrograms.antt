@@ -1,10 +1,8 @@
 -- The positions in a shaped program have 32 bits.
-use Rattle.std.proofs.Common.{◌≤◌, ◌^◌, length, All, arith}
-use Rattle.mr_ast.specs.declared.program.Block.{Block}
+use Rattle.mr_wf.proofs.Common.{◌≤◌, ◌^◌, length, All, arith, Block, IsShort}
 use Rattle.mr_ast.specs.declared.program.Function.{Function}
 use Rattle.mr_ast.specs.declared.program.Program.{Program}
 use Rattle.mr_ast.specs.Shaped.{Shaped, ShapedBlock, ShapedFunction}
-use Rattle.mr_wf.specs.JudgingPrograms.{IsShort}
 
 short_function : (p : Program) (f : Function) → ShapedFunction p f → IsShort f
 short_function p f shaped = record {

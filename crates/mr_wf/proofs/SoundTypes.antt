@@ -1,10 +1,6 @@
 -- A written type that breaks no rule is well-formed.
-use Rattle.std.proofs.Common.{◌≡◌, refl}
-use Rattle.std.specs.Prelude.{Option, None, Some, Result, Ok, Err}
-use Rattle.mr_ast.specs.declared.rule.Rule.{Rule}
-use Rattle.mr_ast.specs.declared.types.Ty.{Ty}
+use Rattle.mr_wf.proofs.Common.{◌≡◌, refl, Option, None, Some, Result, Ok, Err, Rule, Ty, sound_type}
 use Rattle.mr_layout.specs.TypeOk.{TypeOk, broken_rule}
-use Rattle.mr_typing.specs.Judging.{sound_type}
 
 pub sound_ok : (t : Ty) → sound_type t ≡ Ok tt → TypeOk t
 sound_ok t e = go (broken_rule t) e

@@ -1,18 +1,15 @@
 -- What a switch takes, from the kind of its value's type.
-use Rattle.std.proofs.Common.{◌≡◌, ℕ, zero, suc, ◌+◌, ◌<◌, Bool, true, false, List, [], ◌∷◌, drop, get_or, length, refl, ap, ◌∙◌}
-use Rattle.std.proofs.lemmas.List.{drop_more}
-use Rattle.std.specs.Prelude.{◌&&◌, not, None, Some}
-use Rattle.mr_ast.specs.declared.program.BlockName.{BlockName}
+use Rattle.mr_wf.proofs.Common.{◌≡◌, ℕ, zero, suc, ◌+◌, ◌<◌, Bool, true, false, List, [], ◌∷◌, drop, get_or, length, refl, ap, ◌∙◌, drop_more, ◌&&◌, None, Some, BlockName, Num, Ty, integer_of}
+use Rattle.std.specs.Prelude.{not}
 use Rattle.mr_ast.specs.declared.types.IntType.{IntType}
-use Rattle.mr_ast.specs.declared.types.Num.{Num}
-use Rattle.mr_ast.specs.declared.types.Ty.{Ty, out-Ty}
+use Rattle.mr_ast.specs.declared.types.Ty.{out-Ty}
 use Rattle.mr_ast.specs.declared.types.Ty.TheOpen.{Ty-F}
 use Rattle.mr_ast.specs.declared.types.Variant.{Variant}
 use Rattle.mr_layout.specs.EnumRules.{is_case}
 use Rattle.mr_ast.specs.Integers.{is_fitting}
 use Rattle.mr_typing.specs.Blocks.{are_bool_cases, are_int_cases, fits_switch, fits_switch_layer}
 use Rattle.mr_typing.specs.Operands.{is_bool, is_bool_layer}
-use Rattle.mr_typing.specs.Types.{integer_in, integer_of}
+use Rattle.mr_typing.specs.Types.{integer_in}
 
 int_layer : (cases : List (Num × BlockName)) (d : Ty-F Ty Variant) (i : IntType) → integer_in d ≡ Some i → fits_switch_layer cases d ≡ are_int_cases i cases
 int_layer cases (Ty-F.Int j) i e = let same : j ≡ i = cc in ap (λ (k : IntType). are_int_cases k cases) same

@@ -1,21 +1,11 @@
 -- The fronts of the threads tell which are ready, and stay so behind one more step.
-use Rattle.std.proofs.Common.{◌≡◌, ◌≢◌, ℕ, suc, ◌+◌, ◌-◌, ◌<◌, ◌≤◌, ◌^◌, refl, sym, ◌∙◌, ap, subst, arith, List, [], ◌∷◌, ◌++◌, length, get_or, set, Bool, true, false, Some, None, cond, inl, inr, IsTrue, ◌↔◌, append-nil, append_assoc}
-use native.Mathlib.Decide.{ℕ_discrete, dec_lt}
-use Rattle.std.specs.Prelude.{◌==◌, nat_lt, not, ◌&&◌}
-use Rattle.std.specs.List.{filter, find}
-use Rattle.std.proofs.lemmas.Bool.{and_from, and_parts, both_ways, cases_Bool, eq-eqb, eqb-true, ne_eqb, not-true, lt-ltb, le-ltb, ltb-true, ltb-false, false_from_ne_true}
-use Rattle.std.proofs.lemmas.List.{get_or-set_same, get_or-set_other, get_or_default, get_or_past, get_or_read, length-set}
-use Rattle.std.proofs.lemmas.List.Elements.{filter-append}
-use Rattle.mr_event.specs.Footprint.{Footprint}
-use Rattle.mr_event.specs.Order.{places, thread_at}
-use Rattle.mr_event.specs.Predicted.{happens_before}
+use Rattle.mr_witness.proofs.Common.{◌≡◌, ◌≢◌, ℕ, suc, ◌+◌, ◌-◌, ◌<◌, ◌≤◌, ◌^◌, refl, sym, ◌∙◌, ap, subst, arith, List, [], ◌∷◌, ◌++◌, length, get_or, Bool, true, false, Some, None, cond, inl, inr, IsTrue, ◌↔◌, append-nil, append_assoc, ℕ_discrete, ◌==◌, nat_lt, not, ◌&&◌, filter, find, and_from, and_parts, both_ways, cases_Bool, eq-eqb, eqb-true, ne_eqb, not-true, get_or_default, filter-append, Footprint, places, thread_at, happens_before, happens_before_is, not_false, IsAmong, Ahead, Ahead-filter, Ahead-places, Each, Each-filter, Each-places, Each-weaker, filter-kept, filter-left_out, IsBoard, IsNextOf, left_of, above_threads, drawn_step, earliest_of, free_step, is_free, is_ready, placed_in, ready_threads, shuffled_order, step_or_first, without}
+use Rattle.std.proofs.Common.{set}
+use native.Mathlib.Decide.{dec_lt}
+use Rattle.std.proofs.lemmas.Bool.{lt-ltb, le-ltb, ltb-true, ltb-false, false_from_ne_true}
+use Rattle.std.proofs.lemmas.List.{get_or-set_same, get_or-set_other, get_or_past, get_or_read, length-set}
 use Rattle.mr_event.proofs.Ordered.{HappensBefore-before}
-use Rattle.mr_event.proofs.Tests.{happens_before_is, not_false}
 use Rattle.mr_clocks.specs.Whole.{AreFronts, IsReady, front_of}
-use Rattle.mr_exchange.specs.Trace.{IsAmong}
-use Rattle.mr_exchange.proofs.Lists.{Ahead, Ahead-filter, Ahead-places, Each, Each-filter, Each-places, Each-weaker, filter-kept, filter-left_out}
-use Rattle.mr_witness.specs.Board.{IsBoard, IsNextOf, left_of}
-use Rattle.mr_witness.specs.Shuffled.{above_threads, drawn_step, earliest_of, free_step, is_free, is_ready, placed_in, ready_threads, shuffled_order, step_or_first, without}
 use Rattle.mr_sched.specs.declared.chooser.Chooser.{Chooser}
 use Rattle.mr_sched.specs.Chooser.{behind_draw, drawn_from, first_chooser}
 use Rattle.mr_witness.proofs.Drawn.{AreLeft, among_each, among_filter, among_places, any_among, drawn_below, drawn_ready, filter_among, next_step, none_each, places_length, some_ready, thread_below, without_length}

@@ -1,14 +1,8 @@
 -- What never refuses with a data race: reasons, results, outcomes and scripts.
-use Rattle.std.proofs.Common.{◌≡◌, refl, sym, ◌∙◌, ap, Bool, true, false, Option, Some, None, Result, Ok, Err}
-use Rattle.std.proofs.lemmas.Bool.{both_ways}
+use Rattle.mr_witness.proofs.Common.{◌≡◌, refl, sym, ◌∙◌, ap, Bool, true, false, Option, Some, None, Result, Ok, Err, both_ways, Reason, DataRace, Ask, Broken, Done, IllFormed, Outcome, Refused, Undefined, Went, on, run, ◌>>=◌, MemoryScript, reading_part, ReadScript, answered, StepScript, memory_part}
 use Rattle.mr_base.specs.declared.reached.Reached.{Reached}
-use Rattle.mr_base.specs.declared.reason.Reason.{Reason}
-use Rattle.mr_base.specs.declared.reason.Reason.TheVariants.{DataRace}
-use Rattle.mr_base.specs.Script.{Ask, Broken, Done, IllFormed, Outcome, Refused, Script, Undefined, Went, on, run, ◌>>=◌}
+use Rattle.mr_base.specs.Script.{Script}
 use Rattle.mr_eval.proofs.MemSpeakingLaws.{SpeakResult, Speaks}
-use Rattle.mr_eval.specs.MemoryQueries.{MemoryScript, reading_part}
-use Rattle.mr_eval.specs.Reads.{ReadScript, answered}
-use Rattle.mr_exchange.specs.PlanQueries.{StepScript, memory_part}
 
 -- whether a reason is the data race
 abbrev pub is_race : Reason → Bool

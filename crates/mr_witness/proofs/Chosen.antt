@@ -1,17 +1,5 @@
 -- The chosen entries, one more place at a time, and the marks as the order of steps.
-use Rattle.std.proofs.Common.{◌≡◌, ℕ, ◌+◌, ◌<◌, refl, sym, ◌∙◌, ap, List, [], ◌∷◌, ◌++◌, map, Bool, true, false, not, ◌&&◌, IsTrue, ◌↔◌, zero-add, append_assoc, arith}
-use Rattle.std.specs.Prelude.{◌==◌, slice_index_or}
-use Rattle.std.specs.List.{filter}
-use Rattle.std.proofs.lemmas.List.Elements.{filter-append}
-use Rattle.mr_event.specs.Footprint.{Footprint}
-use Rattle.mr_event.specs.Kept.{kept}
-use Rattle.mr_event.specs.Order.{HappensBefore, places}
-use Rattle.mr_event.specs.Predicted.{happens_before}
-use Rattle.mr_event.proofs.Tests.{happens_before_is}
-use Rattle.mr_exchange.proofs.Lists.{Each-places, Each-weaker, filter-agree, filter-kept, filter-left_out, range_with_len-parts}
-use Rattle.mr_sched.specs.declared.schedule.Entry.{Entry}
-use Rattle.mr_sched.specs.declared.schedule.Schedule.{Schedule}
-use Rattle.mr_exchange.specs.Witness.{entry_at, kept_schedule}
+use Rattle.mr_witness.proofs.Common.{◌≡◌, ℕ, ◌+◌, ◌<◌, refl, sym, ◌∙◌, ap, List, [], ◌∷◌, ◌++◌, map, Bool, true, false, not, ◌&&◌, IsTrue, ◌↔◌, zero-add, append_assoc, arith, ◌==◌, slice_index_or, filter, filter-append, Footprint, kept, HappensBefore, places, happens_before, happens_before_is, Each-places, Each-weaker, filter-agree, filter-kept, filter-left_out, range_with_len-parts, Entry, Schedule, entry_at, kept_schedule}
 use Rattle.mr_witness.proofs.Lists.{map_append}
 
 pub one_more_place : (k : ℕ) → places (k + 1) ≡ places k ++ k ∷ []

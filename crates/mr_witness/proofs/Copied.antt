@@ -1,19 +1,8 @@
 -- The copied entries are the schedule in the drawn order.
-use Rattle.std.proofs.Common.{◌≡◌, ℕ, suc, ◌+◌, ◌<◌, ◌≤◌, sym, ◌∙◌, ap, subst, arith, List, [], ◌∷◌, ◌++◌, map, length, drop, append-nil, drop-cons}
-use Rattle.std.specs.Prelude.{All}
+use Rattle.mr_witness.proofs.Common.{◌≡◌, ℕ, suc, ◌+◌, ◌<◌, ◌≤◌, sym, ◌∙◌, ap, subst, arith, List, [], ◌∷◌, ◌++◌, map, length, drop, append-nil, All, Program, Footprint, predicted, Each-at, Entry, Schedule, WellFormed, Legal, steps_of, entry_at, ComesToTheSame, reordered, shuffled, shuffled_order}
+use Rattle.std.proofs.Common.{drop-cons}
 use Rattle.std.proofs.lemmas.List.{drop_all}
-use Rattle.mr_ast.specs.declared.program.Program.{Program}
-use Rattle.mr_event.specs.Footprint.{Footprint}
-use Rattle.mr_event.specs.Predicted.{predicted}
-use Rattle.mr_exchange.proofs.Lists.{Each-at}
-use Rattle.mr_sched.specs.declared.schedule.Entry.{Entry}
-use Rattle.mr_sched.specs.declared.schedule.Schedule.{Schedule}
-use Rattle.mr_witness.specs.TypingWalk.{WellFormed}
-use Rattle.mr_exchange.specs.StartRuns.{Legal, steps_of}
 use Rattle.mr_sched.specs.Versions.{no_entry}
-use Rattle.mr_exchange.specs.Witness.{entry_at}
-use Rattle.mr_witness.specs.EveryOrder.{ComesToTheSame, reordered}
-use Rattle.mr_witness.specs.Shuffled.{shuffled, shuffled_order}
 use Rattle.mr_witness.proofs.Drawn.{shuffled_rearranged, shuffled_within}
 use Rattle.mr_witness.proofs.EveryOrder.{every_order}
 

@@ -1,21 +1,11 @@
 -- The drawn order is a rearrangement: in each turn some thread is ready, and each step is placed behind all that happen
 -- before it.
-use Rattle.std.proofs.Common.{◌≡◌, ◌≢◌, ℕ, suc, zero, ◌+◌, ◌<◌, ◌≤◌, refl, sym, ◌∙◌, ap, subst, arith, List, [], ◌∷◌, length, Bool, true, false, inl, inr, ◌⊎◌, Option, Some, None}
-use native.Mathlib.Decide.{ℕ_discrete}
-use Rattle.std.specs.Prelude.{◌==◌, not, cond}
-use Rattle.std.specs.List.{filter, find, list_any, range_with_len}
-use Rattle.std.proofs.lemmas.Bool.{both_ways, cases_Bool, eq-eqb, ne_eqb, not-true, or_left, or_right}
-use Rattle.mr_event.specs.Footprint.{Footprint}
-use Rattle.mr_event.specs.Order.{IsRearrangement, places, thread_at}
-use Rattle.mr_event.specs.Predicted.{happens_before}
+use Rattle.mr_witness.proofs.Common.{◌≡◌, ◌≢◌, ℕ, suc, zero, ◌+◌, ◌<◌, ◌≤◌, refl, sym, ◌∙◌, ap, subst, arith, List, [], ◌∷◌, length, Bool, true, false, inl, inr, ◌⊎◌, Option, Some, None, ℕ_discrete, ◌==◌, not, cond, filter, find, list_any, range_with_len, both_ways, cases_Bool, eq-eqb, ne_eqb, not-true, or_left, or_right, Footprint, IsRearrangement, places, thread_at, happens_before, happens_before_is, not_false, IsAmong, Ahead, Ahead-filter, Ahead-places, Each, Each-at, Each-filter, Each-places, Each-weaker, filter-kept, filter-left_out, above_threads, drawn_step, earliest_of, free_step, is_free, is_ready, placed_in, ready_threads, shuffled_order, step_or_first, without}
 use Rattle.mr_event.proofs.Ordered.{HappensBefore-before}
-use Rattle.mr_event.proofs.Tests.{happens_before_is, not_false}
-use Rattle.mr_exchange.specs.Trace.{IsAmong, IsPlacing, IsReady}
-use Rattle.mr_exchange.proofs.Lists.{Ahead, Ahead-filter, Ahead-places, Each, Each-at, Each-filter, Each-places, Each-weaker, filter-kept, filter-left_out}
+use Rattle.mr_exchange.specs.Trace.{IsPlacing, IsReady}
 use Rattle.mr_exchange.proofs.Placing.{placing_is_rearrangement, placing_within}
 use Rattle.mr_sched.specs.declared.chooser.Chooser.{Chooser}
 use Rattle.mr_sched.specs.Chooser.{behind_draw, drawn, drawn_from, first_chooser, position_in}
-use Rattle.mr_witness.specs.Shuffled.{above_threads, drawn_step, earliest_of, free_step, is_free, is_ready, placed_in, ready_threads, shuffled_order, step_or_first, without}
 
 -- ---- lists of numbers
 

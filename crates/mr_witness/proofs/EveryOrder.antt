@@ -1,44 +1,17 @@
 -- A run without a listed race comes to the same in every rearranged order.
-use Rattle.std.proofs.Common.{◌≡◌, ℕ, suc, zero, ◌+◌, ◌-◌, ◌<◌, ◌≤◌, refl, sym, ◌∙◌, ap, subst, arith, List, [], ◌∷◌, ◌++◌, map, length, get_or, take, drop, None, zero-add, append-nil, length-append}
-use Rattle.std.specs.List.{range_with_len}
-use Rattle.std.proofs.lemmas.List.{get_or-map, length-map, nil_from_length, take-append-drop}
+use Rattle.mr_witness.proofs.Common.{◌≡◌, ℕ, suc, zero, ◌+◌, ◌-◌, ◌<◌, ◌≤◌, refl, sym, ◌∙◌, ap, subst, arith, List, [], ◌∷◌, ◌++◌, map, length, get_or, take, drop, None, zero-add, append-nil, length-append, range_with_len, length-map, Program, DataRace, some_race, Footprint, wakes, IsRearrangement, no_step, places, step_at, predicted, IsReported, Entry, Schedule, WellFormed, Language, State, AreLegal, Config, after, feet, machine_step, IsLook, Look, SoundState, Own, thread_step, Legal, run_of, steps_of, look_of, start_config, start_look, start_sound, IsSane, SwapLaw, sound_is_sane, entry_at, NotesThread, law_of, thread_noted, range_with_len-parts, ComesToTheSame, StandAlike, prints_of, reordered}
+use Rattle.std.proofs.lemmas.List.{get_or-map, nil_from_length, take-append-drop}
 use Rattle.std.proofs.lemmas.List.Sorted.{length_permutation}
-use Rattle.mr_ast.specs.declared.program.Program.{Program}
-use Rattle.mr_base.specs.declared.reason.Reason.TheVariants.{DataRace}
-use Rattle.mr_base.specs.declared.reason.Verdict.TheVariants as verdict
-use Rattle.mr_base.specs.Accesses.{some_race}
-use Rattle.mr_event.specs.Footprint.{Footprint}
-use Rattle.mr_event.specs.Footprints.{wakes}
 use Rattle.mr_event.specs.declared.footprint.Pair.{Pair}
-use Rattle.mr_event.specs.Order.{HasNoRace, IsPredicted, IsRearrangement, no_step, places, step_at}
-use Rattle.mr_event.specs.Predicted.{predicted}
+use Rattle.mr_event.specs.Order.{HasNoRace, IsPredicted}
 use Rattle.mr_event.proofs.Tests.{predicted_is}
 use Rattle.mr_exchange.specs.Shown.{AreAdjacent}
-use Rattle.mr_exchange.specs.Trace.{IsReported}
 use Rattle.mr_exchange.proofs.First.{none_predicted}
 use Rattle.mr_exchange.proofs.Rearranged.{none_in_rearranged, none_reported, rearranged_runs}
-use Rattle.mr_sched.specs.declared.schedule.Entry.{Entry}
-use Rattle.mr_sched.specs.declared.schedule.Schedule.{Schedule}
-use Rattle.mr_witness.specs.TypingWalk.{WellFormed}
-use Rattle.mr_witness.specs.PlanMachine.{Language, State}
-use Rattle.mr_witness.specs.PlanRuns.{AreLegal, Config, after, feet, machine_step}
-use Rattle.mr_witness.specs.FrameFits.{IsLook}
-use Rattle.mr_witness.specs.FrameFrames.{Look}
-use Rattle.mr_witness.specs.ThreadSoundState.{SoundState}
-use Rattle.mr_witness.specs.StartSteps.{Own, thread_step}
-use Rattle.mr_exchange.specs.StartRuns.{Legal, run_of, steps_of}
-use Rattle.mr_exchange.specs.StartStart.{look_of, start_config}
-use Rattle.mr_exchange.proofs.StartStartSound.{start_look, start_sound}
-use Rattle.mr_exchange.specs.Swap.{IsSane, SwapLaw}
-use Rattle.mr_exchange.proofs.Sane.{sound_is_sane}
-use Rattle.mr_exchange.specs.Witness.{entry_at}
-use Rattle.mr_exchange.proofs.Exchanged.{NotesThread}
-use Rattle.mr_exchange.proofs.Law.{law_of, thread_noted}
+use Rattle.mr_base.specs.declared.reason.Verdict.TheVariants as verdict
 use Rattle.mr_witness.proofs.Lists.{after_append, feet_append, feet_length, legal_append, map_append, map_places}
 use Rattle.mr_witness.proofs.Recorded.{config}
 use Rattle.mr_witness.proofs.Replayed.{calm_from, last_of}
-use Rattle.mr_exchange.proofs.Lists.{range_with_len-parts}
-use Rattle.mr_witness.specs.EveryOrder.{ComesToTheSame, StandAlike, prints_of, reordered}
 use Rattle.mr_witness.proofs.OrderMoves.{Place, machine}
 use Rattle.mr_witness.proofs.RecordedPlaces.{recorded}
 use Rattle.mr_witness.proofs.OrderReplayed.{Replays, calm_stop, never_reported, replayed, same_stop, verdict_behind}

@@ -1,15 +1,9 @@
 -- A run in another order, computed: a thread that is spawned ends, and its creator goes on; drawn from 0 the creator goes
 -- on first.
-use Rattle.std.proofs.Common.{◌≡◌, ℕ, List, [], ◌∷◌, refl}
-use Rattle.mr_base.specs.Accesses.{some_conflict, some_race}
+use Rattle.mr_witness.proofs.Common.{◌≡◌, ℕ, List, [], ◌∷◌, refl, some_race, Footprint, depends, wakes, no_step, happens_before, Entry, ready_threads, shuffled, shuffled_order}
+use Rattle.mr_base.specs.Accesses.{some_conflict}
 use Rattle.mr_base.specs.declared.thread.Event.TheVariants.{Quiet}
-use Rattle.mr_event.specs.Footprint.{Footprint}
-use Rattle.mr_event.specs.Footprints.{depends, wakes}
-use Rattle.mr_event.specs.Order.{no_step}
-use Rattle.mr_event.specs.Predicted.{happens_before}
 use Rattle.mr_event.proofs.Examples.{ending, spawning, step}
-use Rattle.mr_sched.specs.declared.schedule.Entry.{Entry}
-use Rattle.mr_witness.specs.Shuffled.{ready_threads, shuffled, shuffled_order}
 
 abbrev pub ended_first : List Footprint
 ended_first = spawning 1 [] ∷ ending 1 ∷ step 0 [] Quiet ∷ []

@@ -1,29 +1,21 @@
 -- No evaluation of a place or a value is refused with a data race.
-use Rattle.std.proofs.Common.{◌≡◌, ℕ, ◌*◌, ◌^◌, refl, sym, subst, List, [], ◌∷◌, Bool, true, false, ◌&&◌, Option, Some, None, Result, Ok, Err}
-use Rattle.std.specs.Prelude.{◌==◌, ℤ, pos, negsuc, if◌then◌else◌, int_div, int_le, int_lt, int_rem, is_some, nat_lt, slice_get, unsigned_abs, ◌+ℤ◌}
+use Rattle.mr_witness.proofs.Common.{◌≡◌, ℕ, ◌^◌, refl, sym, subst, List, [], ◌∷◌, Bool, true, false, ◌&&◌, Option, Some, None, Result, Ok, Err, ◌==◌, if◌then◌else◌, nat_lt, slice_get, meaningless, plainly, Ty, out-Ty, Pointer, Reason, Val, out-Val, number_of, Ask, Done, IllFormed, Undefined, ◌>>=◌, or_ill_formed, pointer_in, pointer_of_value, Check, ReadScript, loading}
+use Rattle.std.proofs.Common.{◌*◌}
+use Rattle.std.specs.Prelude.{ℤ, pos, negsuc, int_div, int_le, int_lt, int_rem, is_some, unsigned_abs, ◌+ℤ◌}
 use Rattle.std.specs.Ordering.{int_eq}
-use Rattle.mr_eval.specs.Typed.{meaningless}
 use Rattle.mr_base.specs.Stops.{Stop}
-use Rattle.mr_base.specs.Stops.{plainly}
 use Rattle.mr_ast.specs.Integers.{bits_of, fits, least_of}
 use Rattle.mr_ast.specs.declared.expr.BinaryOp.{BinaryOp}
 use Rattle.mr_ast.specs.declared.expr.Place.{Place}
-use Rattle.mr_ast.specs.declared.expr.Place.TheVariants as place
 use Rattle.mr_ast.specs.declared.expr.UnaryOp.{UnaryOp}
-use Rattle.mr_ast.specs.declared.expr.UnaryOp.TheVariants as unary
 use Rattle.mr_ast.specs.declared.expr.Value.{Value}
-use Rattle.mr_ast.specs.declared.expr.Value.TheVariants as value
 use Rattle.mr_ast.specs.declared.types.IntType.{IntType}
 use Rattle.mr_ast.specs.declared.types.IntType.TheVariants.{I64}
 use Rattle.mr_ast.specs.declared.types.Num.{Num}
 use Rattle.mr_ast.specs.declared.types.Tree.{Tree}
-use Rattle.mr_ast.specs.declared.types.Tree.TheVariants as tree
-use Rattle.mr_ast.specs.declared.types.Ty.{Ty, out-Ty}
 use Rattle.mr_ast.specs.declared.types.Ty.TheOpen.{Ty-F}
 use Rattle.mr_ast.specs.declared.types.Variant.{Variant}
 use Rattle.mr_ast.proofs.ExprInduction.{AllValues, ExprCases, place_induction, value_induction}
-use Rattle.mr_base.specs.declared.byte.Pointer.{Pointer}
-use Rattle.mr_base.specs.declared.reason.Reason.{Reason}
 use Rattle.mr_base.specs.declared.reason.Reason.TheVariants.{DivOverflow, IndexOutOfRange, InvalidDiscriminant, InvalidValue, OffsetOverflow, Overflow, ShiftAmount, TransmuteInvalid, ZeroDivisor}
 use Rattle.mr_eval.specs.declared.arithmetic.ArithOp.{ArithOp}
 use Rattle.mr_eval.specs.declared.arithmetic.ArithOp.TheVariants.{Add, AddUnchecked, And, Div, Mul, MulUnchecked, Or, Rem, Sub, SubUnchecked, Xor}
@@ -33,24 +25,25 @@ use Rattle.mr_eval.specs.Arith.{arith_of, if_quotient_defined, unless_overflow}
 use Rattle.mr_eval.specs.Numbers.{bits_for, value_of}
 use Rattle.mr_eval.specs.Shift.{amount_of, is_amount, shift_of, shifted_left, shifted_right}
 use Rattle.mr_layout.specs.EnumRules.{same_num}
-use Rattle.mr_value.specs.declared.val.Val.{Val, out-Val}
 use Rattle.mr_value.specs.declared.val.Val.TheOpen.{Val-F}
 use Rattle.mr_value.specs.Decode.{decoded}
 use Rattle.mr_value.specs.Encode.{encoding_of}
-use Rattle.mr_value.specs.Numbers.{Bytes, number_of}
+use Rattle.mr_value.specs.Numbers.{Bytes}
 use Rattle.mr_value.specs.Shape.{has_shape}
 use Rattle.mr_ast.proofs.TreeInduction.{AllCases, TreeCases, tree_induction}
-use Rattle.mr_base.specs.Script.{Ask, Done, IllFormed, Undefined, ◌>>=◌}
 use Rattle.mr_eval.specs.TypingTypes.{chained, type_of_place, type_of_value, variant_type}
 use Rattle.mr_eval.specs.declared.kinds.Operator.{Operator}
 use Rattle.mr_eval.specs.declared.kinds.Operator.TheVariants.{Arith, Comparing, Moving, Overflowing, Shifting, Wrapping}
 use Rattle.mr_eval.specs.Evaluation.{Surround, as_variant, discriminant_at, discriminant_layer, element_at, elements_in, loaded, offset_in, place_script, stored, transmuted, union_layer, union_of, value_script, values_script}
 use Rattle.mr_eval.specs.Moves.{at_address, behind, lower, moved, moved_to}
-use Rattle.mr_eval.specs.Operators.{arith_like, binary_of, bits_in, cast_layer, cast_value, index_in, integer_like, integer_told, kind_of, like, moved_pointer, operated, or_ill_formed, or_reason, pointer_in, pointer_of_value, right_in, shift_like, unary_bool, unary_in, unary_of}
-use Rattle.mr_eval.specs.Reads.{Check, ReadScript}
-use Rattle.mr_eval.specs.Typed.{Targets, case_search, loading, meant, numbered, or_undefined, referred, referring, searched, targets_of}
+use Rattle.mr_eval.specs.Operators.{arith_like, binary_of, bits_in, cast_layer, cast_value, index_in, integer_like, integer_told, kind_of, like, moved_pointer, operated, or_reason, right_in, shift_like, unary_bool, unary_in, unary_of}
+use Rattle.mr_eval.specs.Typed.{Targets, case_search, meant, numbered, or_undefined, referred, referring, searched, targets_of}
 use Rattle.mr_eval.proofs.DiscSafe.{search_branch, search_invalid, search_known, searches}
 use Rattle.mr_eval.proofs.EvaluationLaws.{script_addr_of, script_binary, script_cast, script_deref, script_disc, script_false, script_field, script_fn, script_global, script_index, script_int, script_load, script_local, script_raw, script_transmute, script_true, script_tuple, script_unary, script_union, script_variant, script_variant_place}
+use Rattle.mr_ast.specs.declared.expr.Place.TheVariants as place
+use Rattle.mr_ast.specs.declared.expr.UnaryOp.TheVariants as unary
+use Rattle.mr_ast.specs.declared.expr.Value.TheVariants as value
+use Rattle.mr_ast.specs.declared.types.Tree.TheVariants as tree
 use Rattle.mr_witness.proofs.Calm.{Anything, CalmResult, Calms, IsCalm, calms_then}
 
 -- a script of evaluation that is refused with no data race

@@ -1,21 +1,6 @@
 -- The short schedule has entries of the kept one alone, and no more.
-use Rattle.std.proofs.Common.{◌≡◌, ℕ, suc, zero, ◌≤◌, refl, sym, ◌∙◌, ap, subst, arith, List, [], ◌∷◌, ◌++◌, map, length, Bool, true, not, ◌&&◌, inl, inr, ◌⊎◌, length-append}
-use Rattle.std.specs.Prelude.{◌==◌, Contains}
-use Rattle.std.specs.List.{filter}
-use Rattle.std.proofs.lemmas.Bool.{and_from, and_parts, cases_Bool}
-use Rattle.std.proofs.lemmas.List.{length-map}
-use Rattle.mr_event.specs.Footprint.{Footprint}
-use Rattle.mr_event.specs.Kept.{kept, selected}
-use Rattle.mr_event.specs.Order.{HappensBefore, places}
-use Rattle.mr_event.specs.Predicted.{happens_before}
-use Rattle.mr_event.proofs.Tests.{happens_before_is, not_false}
-use Rattle.mr_exchange.specs.Trace.{IsAmong, IsFirstPair, short_keeps}
-use Rattle.mr_exchange.proofs.Choices.{short_selects}
-use Rattle.mr_exchange.proofs.Lists.{Each, Each-places, Each-weaker, filter-kept, filter-left_out}
-use Rattle.mr_sched.specs.declared.schedule.Entry.{Entry}
-use Rattle.mr_sched.specs.declared.schedule.Schedule.{Schedule}
-use Rattle.mr_exchange.specs.Witness.{entry_at, kept_schedule}
-use Rattle.mr_witness.specs.Short.{short_schedule}
+use Rattle.mr_witness.proofs.Common.{◌≡◌, ℕ, suc, zero, ◌≤◌, refl, sym, ◌∙◌, ap, subst, arith, List, [], ◌∷◌, ◌++◌, map, length, Bool, true, not, ◌&&◌, inl, inr, ◌⊎◌, length-append, ◌==◌, filter, and_from, and_parts, cases_Bool, length-map, Footprint, kept, selected, HappensBefore, places, happens_before, happens_before_is, not_false, IsAmong, IsFirstPair, short_keeps, short_selects, Each, Each-places, Each-weaker, filter-kept, filter-left_out, Entry, Schedule, entry_at, kept_schedule, short_schedule}
+use Rattle.std.specs.Prelude.{Contains}
 
 -- ---- lists
 

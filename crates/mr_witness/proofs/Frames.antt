@@ -1,33 +1,21 @@
 -- No step of a frame is refused with a data race.
-use Rattle.std.proofs.Common.{◌≡◌, ℕ, refl, List, [], ◌∷◌, map, Bool, true, false, Option, Some, None, sym, subst}
-use Rattle.std.specs.Prelude.{if◌then◌else◌, slice_get}
-use Rattle.mr_base.specs.Stops.{plainly}
+use Rattle.mr_witness.proofs.Common.{◌≡◌, ℕ, refl, List, [], ◌∷◌, map, Bool, true, false, Option, Some, None, sym, subst, if◌then◌else◌, slice_get, plainly, Ty, Pointer, SignatureMismatch, Val, Done, IllFormed, Undefined, ◌>>=◌, MemoryScript, reading_part, or_ill_formed, pointer_of_value, ReadScript, loading}
 use Rattle.mr_ast.specs.declared.expr.Place.{Place}
 use Rattle.mr_ast.specs.declared.expr.Value.{Value}
 use Rattle.mr_ast.specs.declared.program.BlockName.{BlockName}
 use Rattle.mr_ast.specs.declared.program.Function.{Function}
 use Rattle.mr_ast.specs.declared.program.Local.{Local}
 use Rattle.mr_ast.specs.declared.program.Stmt.{Stmt}
-use Rattle.mr_ast.specs.declared.program.Stmt.TheVariants as stmt
 use Rattle.mr_ast.specs.declared.program.Term.{Term}
-use Rattle.mr_ast.specs.declared.program.Term.TheVariants as term
 use Rattle.mr_ast.specs.declared.types.Num.{Num}
 use Rattle.mr_ast.specs.declared.types.Tag.{Tag}
-use Rattle.mr_ast.specs.declared.types.Ty.{Ty}
-use Rattle.mr_base.specs.declared.byte.Pointer.{Pointer}
-use Rattle.mr_base.specs.declared.reason.Reason.TheVariants.{MainReturned, SignatureMismatch}
+use Rattle.mr_base.specs.declared.reason.Reason.TheVariants.{MainReturned}
 use Rattle.mr_layout.specs.Sizes.{align_of}
-use Rattle.mr_value.specs.declared.val.Val.{Val}
 use Rattle.mr_value.specs.Encode.{encoding_of}
 use Rattle.mr_value.specs.Shape.{has_shape}
 use Rattle.mr_eval.specs.TypingTypes.{type_of_place, type_of_value}
 use Rattle.mr_eval.specs.TypingWalk.{begins_regular}
-use Rattle.mr_base.specs.Script.{Done, IllFormed, Undefined, ◌>>=◌}
 use Rattle.mr_eval.specs.Evaluation.{Surround, place_script, stored, value_script, values_script}
-use Rattle.mr_eval.specs.MemoryQueries.{MemoryScript, reading_part}
-use Rattle.mr_eval.specs.Operators.{or_ill_formed, pointer_of_value}
-use Rattle.mr_eval.specs.Reads.{ReadScript}
-use Rattle.mr_eval.specs.Typed.{loading}
 use Rattle.mr_exchange.specs.PlanMachine.{CreatesNothing, Plan}
 use Rattle.mr_exchange.specs.StartFrameCalls.{Targets, all_there, allocate_each, behind_first, both_there, call, call_function, call_number, call_plan, callee_of, calling, enter, enter_at, enter_with, free_each, give_result, give_to, given_types, is_main, kept_types, leave, local_type, resume, return_from, return_value, same_types, storage_asks, store_each, targets_of, unwind, unwind_in, unwind_to}
 use Rattle.mr_exchange.specs.StartFrameChanges.{Change, change, free_storage, store, tags_in, validate_at, with_type, write, write_found, write_tags}
@@ -37,6 +25,8 @@ use Rattle.mr_exchange.specs.StartFrameSites.{AtDo, AtStatement, AtTerminator, D
 use Rattle.mr_exchange.specs.StartFrameSteps.{dead, frame_plan, live, live_at, next, plain, plan_at, plan_due, statement, terminator}
 use Rattle.mr_exchange.specs.StartFrameSwitches.{number_as, switched}
 use Rattle.mr_exchange.proofs.StartFrameStatements.{by_kind, changes}
+use Rattle.mr_ast.specs.declared.program.Stmt.TheVariants as stmt
+use Rattle.mr_ast.specs.declared.program.Term.TheVariants as term
 use Rattle.mr_witness.proofs.Calm.{Anything, Calms, calms_then, reading_calms}
 use Rattle.mr_witness.proofs.Expressions.{Reads, found_reads, loading_reads, place_reads, stored_reads, value_reads, values_read}
 

@@ -1,28 +1,8 @@
 -- The kept schedule of the first pair is a witness.
-use Rattle.std.proofs.Common.{◌≡◌, ℕ, refl, ◌∙◌, ap, subst, List, ◌∷◌, map}
-use Rattle.mr_ast.specs.declared.program.Program.{Program}
-use Rattle.mr_base.specs.declared.reason.Verdict.TheVariants as verdict
-use Rattle.mr_event.specs.Footprint.{Footprint}
+use Rattle.mr_witness.proofs.Common.{◌≡◌, ℕ, refl, ◌∙◌, ap, subst, List, ◌∷◌, map, Program, Footprint, kept, step_at, predicted, IsFirstPair, first_of_predicted, Schedule, WellFormed, State, SoundState, Own, thread_step, Legal, run_of, steps_of, look_of, start_config, start_look, start_sound, IsSane, SwapLaw, sound_is_sane, NotesThread, law_of, thread_noted, IsWitness, kept_schedule, schedule_at}
 use Rattle.mr_event.specs.declared.footprint.Pair.{Pair}
-use Rattle.mr_event.specs.Kept.{kept}
-use Rattle.mr_event.specs.Order.{step_at}
-use Rattle.mr_event.specs.Predicted.{predicted}
-use Rattle.mr_exchange.specs.Trace.{IsFirstPair}
 use Rattle.mr_exchange.proofs.Choices.{kept_selects}
-use Rattle.mr_exchange.proofs.First.{first_of_predicted}
-use Rattle.mr_sched.specs.declared.schedule.Schedule.{Schedule}
-use Rattle.mr_witness.specs.TypingWalk.{WellFormed}
-use Rattle.mr_witness.specs.PlanMachine.{State}
-use Rattle.mr_witness.specs.ThreadSoundState.{SoundState}
-use Rattle.mr_witness.specs.StartSteps.{Own, thread_step}
-use Rattle.mr_exchange.specs.StartRuns.{Legal, run_of, steps_of}
-use Rattle.mr_exchange.specs.StartStart.{look_of, start_config}
-use Rattle.mr_exchange.proofs.StartStartSound.{start_look, start_sound}
-use Rattle.mr_exchange.specs.Swap.{IsSane, SwapLaw}
-use Rattle.mr_exchange.proofs.Sane.{sound_is_sane}
-use Rattle.mr_exchange.proofs.Exchanged.{NotesThread}
-use Rattle.mr_exchange.proofs.Law.{law_of, thread_noted}
-use Rattle.mr_exchange.specs.Witness.{IsWitness, kept_schedule, schedule_at}
+use Rattle.mr_base.specs.declared.reason.Verdict.TheVariants as verdict
 use Rattle.mr_witness.proofs.Shown.{ShowsRace, choice_shows}
 
 -- THE KEPT SCHEDULE IS A WITNESS, of every well-formed program under a legal schedule

@@ -1,6 +1,7 @@
 pub mod Boards
 pub mod Calm
 pub mod Chosen
+mod Common
 pub mod Copied
 pub mod Drawn
 pub mod EveryOrder

@@ -1,12 +1,6 @@
 -- Lists by their places, and runs in two parts.
-use Rattle.std.proofs.Common.{◌≡◌, ℕ, suc, zero, ◌+◌, ◌-◌, ◌≤◌, refl, sym, ◌∙◌, ap, arith, List, [], ◌∷◌, ◌++◌, map, length, get_or, Bool, true, false, inl, inr, append_assoc, length-append}
-use Rattle.std.specs.List.{filter, range_with_len}
-use Rattle.std.proofs.lemmas.Bool.{cases_Bool}
-use Rattle.mr_event.specs.Footprint.{Footprint}
-use Rattle.mr_sched.specs.declared.schedule.Entry.{Entry}
-use Rattle.mr_witness.specs.PlanMachine.{Bare, Completed, IllFormedStep, Language, State, Stops, bare}
-use Rattle.mr_witness.specs.PlanRuns.{AreLegal, Config, after, feet, foot_from, foot_of_bare, machine_step}
-use Rattle.std.specs.Prelude.{None, Option, Some}
+use Rattle.mr_witness.proofs.Common.{◌≡◌, ℕ, suc, zero, ◌+◌, ◌-◌, ◌≤◌, refl, sym, ◌∙◌, ap, arith, List, [], ◌∷◌, ◌++◌, map, length, get_or, Bool, true, false, inl, inr, append_assoc, length-append, filter, range_with_len, cases_Bool, Footprint, Entry, Bare, Completed, IllFormedStep, Language, State, Stops, bare, AreLegal, Config, after, feet, foot_of_bare, machine_step, None, Option, Some}
+use Rattle.mr_witness.specs.PlanRuns.{foot_from}
 
 map_later : {A : Type 0} (f g : ℕ → A) → ((k : ℕ) → f (k + 1) ≡ g k) → (a n : ℕ) → map f (range_with_len (a + 1) n) ≡ map g (range_with_len a n)
 map_later f g same a zero = refl

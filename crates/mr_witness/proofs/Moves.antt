@@ -1,25 +1,6 @@
 -- The machine of a program as moves between the states that a run may come to, of which independent neighbours may be exchanged.
-use Rattle.std.proofs.Common.{◌≡◌, ◌≢◌, ℕ, refl, sym, ◌∙◌, ap, subst, List, [], ◌∷◌, false}
-use Rattle.std.specs.Prelude.{None}
-use Rattle.mr_ast.specs.declared.program.Program.{Program}
-use Rattle.mr_event.specs.Footprint.{Footprint}
-use Rattle.mr_event.specs.Footprints.{depends, wakes}
-use Rattle.mr_event.specs.Order.{step_at, thread_at}
-use Rattle.mr_exchange.specs.Trace.{AreIndependent, Machine, Runs}
-use Rattle.mr_exchange.proofs.Lists.{Each}
-use Rattle.mr_sched.specs.declared.schedule.Entry.{Entry}
-use Rattle.mr_witness.specs.TypingWalk.{WellFormed}
-use Rattle.mr_witness.specs.PlanLegal.{state_fault}
-use Rattle.mr_witness.specs.PlanMachine.{Completed, Language, State, bare}
+use Rattle.mr_witness.proofs.Common.{◌≡◌, ◌≢◌, ℕ, refl, sym, ◌∙◌, ap, subst, List, [], ◌∷◌, false, None, Program, Footprint, depends, wakes, step_at, thread_at, AreIndependent, Machine, Runs, Each, Entry, WellFormed, state_fault, Completed, Language, State, bare, foot_in, IsLook, Look, SoundState, Own, thread_step, IsSane, SwapLaw, entry_at, NotesThread, sound_then}
 use Rattle.mr_witness.specs.PlanNotes.{Notes}
-use Rattle.mr_witness.specs.PlanRuns.{foot_in}
-use Rattle.mr_witness.specs.FrameFits.{IsLook}
-use Rattle.mr_witness.specs.FrameFrames.{Look}
-use Rattle.mr_witness.specs.ThreadSoundState.{SoundState}
-use Rattle.mr_witness.specs.StartSteps.{Own, thread_step}
-use Rattle.mr_exchange.specs.Swap.{IsSane, SwapLaw}
-use Rattle.mr_exchange.specs.Witness.{entry_at}
-use Rattle.mr_exchange.proofs.Exchanged.{NotesThread, sound_then}
 
 -- The entry of the recorded step k breaks no rule in s, and its step completes with the footprint of that step and leads
 -- to t.

@@ -1,18 +1,14 @@
 -- The marks are of the steps that are needed, and these are those of the short witness.
-use Rattle.std.proofs.Common.{◌≡◌, ℕ, ◌+◌, ◌<◌, ◌≤◌, ◌↔◌, refl, sym, ◌∙◌, ap, subst, arith, List, [], ◌∷◌, ◌++◌, Bool, true, false, IsTrue, length, length-append, get_or, slice_index, All, inl, inr}
-use native.Mathlib.Decide.{ℕ_discrete}
-use Rattle.std.proofs.lemmas.Bool.{and_parts, both_ways, cases_Bool, eq-eqb, eqb-true, or_cases, or_left, or_right}
-use Rattle.std.proofs.lemmas.List.{get_or_append_left, get_or_default, get_or_push}
-use Rattle.mr_event.specs.Footprint.{Footprint}
-use Rattle.mr_event.specs.Order.{AreRivals, HappensBefore}
+use Rattle.mr_witness.proofs.Common.{◌≡◌, ℕ, ◌+◌, ◌<◌, ◌≤◌, ◌↔◌, refl, sym, ◌∙◌, ap, subst, arith, List, [], ◌∷◌, ◌++◌, Bool, true, false, IsTrue, length, length-append, get_or, All, inl, inr, ℕ_discrete, and_parts, both_ways, cases_Bool, eq-eqb, eqb-true, or_left, or_right, get_or_default, Footprint, HappensBefore, happens_before, happens_before_is, IsFirstPair, short_keeps, short_selects, AreEnds, AreMarks, AreRivalsBelow}
+use Rattle.std.proofs.Common.{slice_index}
+use Rattle.std.proofs.lemmas.Bool.{or_cases}
+use Rattle.std.proofs.lemmas.List.{get_or_append_left, get_or_push}
+use Rattle.mr_event.specs.Order.{AreRivals}
 use Rattle.mr_event.specs.Order.Edge.{woken}
 use Rattle.mr_event.specs.Order.HappensBefore.{edge}
-use Rattle.mr_event.specs.Predicted.{happens_before}
-use Rattle.mr_event.proofs.Tests.{any_range, happens_before_is, race_pair_is}
+use Rattle.mr_event.proofs.Tests.{any_range, race_pair_is}
 use Rattle.mr_clocks.specs.Whole.{IsNeeded, IsUpTo}
-use Rattle.mr_exchange.specs.Trace.{IsFirstPair, short_keeps}
-use Rattle.mr_exchange.proofs.Choices.{short_selects}
-use Rattle.mr_witness.specs.Marks.{AreEnds, AreMarks, AreRivalsBelow, IsEnd, IsNeededFor}
+use Rattle.mr_witness.specs.Marks.{IsEnd, IsNeededFor}
 
 -- ---- the second step and its rivals
 

@@ -1,28 +1,7 @@
 -- The machine of a program as moves between places of its runs, each a state that a run may come to with what was printed
 -- on the way. Independent neighbours may be exchanged, and each thread's prints stay the same.
-use Rattle.std.proofs.Common.{◌≡◌, ◌≢◌, ℕ, refl, sym, ◌∙◌, ap, subst, List, [], ◌∷◌, ◌++◌, map, true, false, ◌⊎◌, inl, inr, append_assoc, append-nil}
-use Rattle.std.specs.Prelude.{◌==◌, None}
-use Rattle.std.proofs.lemmas.Bool.{cases_Bool, eqb-true, ne_eqb}
-use Rattle.std.proofs.lemmas.List.Elements.{filter-append}
-use Rattle.mr_ast.specs.declared.program.Program.{Program}
-use Rattle.mr_event.specs.Footprint.{Footprint}
-use Rattle.mr_event.specs.Footprints.{depends, wakes}
-use Rattle.mr_event.specs.Order.{step_at, thread_at}
-use Rattle.mr_exchange.specs.Trace.{AreIndependent, Machine}
-use Rattle.mr_sched.specs.declared.schedule.Entry.{Entry}
-use Rattle.mr_witness.specs.TypingWalk.{WellFormed}
-use Rattle.mr_witness.specs.PlanLegal.{state_fault}
-use Rattle.mr_witness.specs.PlanMachine.{Completed, State, bare}
-use Rattle.mr_witness.specs.PlanRuns.{Printed, foot_in, printed_by}
-use Rattle.mr_witness.specs.FrameFits.{IsLook}
-use Rattle.mr_witness.specs.FrameFrames.{Look}
-use Rattle.mr_witness.specs.ThreadSoundState.{SoundState}
-use Rattle.mr_witness.specs.StartSteps.{Own, thread_step}
-use Rattle.mr_exchange.specs.Swap.{IsSane, SwapLaw}
-use Rattle.mr_exchange.specs.Witness.{entry_at}
-use Rattle.mr_exchange.proofs.Exchanged.{NotesThread, sound_then}
+use Rattle.mr_witness.proofs.Common.{◌≡◌, ◌≢◌, ℕ, refl, sym, ◌∙◌, ap, subst, List, [], ◌∷◌, ◌++◌, map, true, false, ◌⊎◌, inl, inr, append_assoc, append-nil, ◌==◌, None, cases_Bool, eqb-true, ne_eqb, filter-append, Program, Footprint, depends, wakes, step_at, thread_at, AreIndependent, Machine, Entry, WellFormed, state_fault, Completed, State, bare, Printed, foot_in, printed_by, IsLook, Look, SoundState, Own, thread_step, IsSane, SwapLaw, entry_at, NotesThread, sound_then, prints_of}
 use Rattle.mr_witness.proofs.Moves.{Takes}
-use Rattle.mr_witness.specs.EveryOrder.{prints_of}
 
 -- ---- prints
 

@@ -1,29 +1,11 @@
 -- Moves as a run of entries, none of which the race check reports; and the same entry behind either of two such runs.
-use Rattle.std.proofs.Common.{◌≡◌, ℕ, ◌+◌, refl, sym, ◌∙◌, ap, subst, arith, List, [], ◌∷◌, ◌++◌, map, length, Bool, true, false, Option, Some}
-use Rattle.std.specs.Prelude.{if◌then◌else◌}
-use Rattle.mr_base.specs.declared.reason.Reason.TheVariants.{DataRace}
-use Rattle.mr_base.specs.declared.reason.Verdict.{Verdict}
-use Rattle.mr_base.specs.declared.reason.Verdict.TheVariants as verdict
-use Rattle.mr_event.specs.Footprint.{Footprint}
-use Rattle.mr_event.specs.Order.{step_at}
-use Rattle.mr_exchange.specs.Trace.{Runs}
-use Rattle.mr_sched.specs.declared.schedule.Entry.{Entry}
+use Rattle.mr_witness.proofs.Common.{◌≡◌, ℕ, ◌+◌, refl, sym, ◌∙◌, ap, subst, arith, List, [], ◌∷◌, ◌++◌, map, length, Bool, true, false, Option, Some, if◌then◌else◌, DataRace, Verdict, Footprint, step_at, Runs, Entry, WellFormed, Bare, Completed, IllFormedStep, State, Stops, bare, AreLegal, Config, Printed, after, after_bare, entry_fault, feet, foot_in, foot_of_bare, machine_step, races_with, verdict_after, IsLook, Look, SoundState, Own, thread_step, IsSane, SwapLaw, NotesThread, entry_at, StandAlike, prints_of}
 use Rattle.mr_exchange.specs.SyncTables.{is_any_enabled}
-use Rattle.mr_witness.specs.TypingWalk.{WellFormed}
-use Rattle.mr_witness.specs.PlanMachine.{Bare, Completed, IllFormedStep, State, Stops, bare}
 use Rattle.mr_witness.specs.PlanQueries.{tables_of}
-use Rattle.mr_witness.specs.PlanRuns.{AreLegal, Config, Printed, after, after_bare, entry_fault, feet, foot_in, foot_of_bare, machine_step, races_with, verdict_after}
-use Rattle.mr_witness.specs.FrameFits.{IsLook}
-use Rattle.mr_witness.specs.FrameFrames.{Look}
-use Rattle.mr_witness.specs.ThreadSoundState.{SoundState}
-use Rattle.mr_witness.specs.StartSteps.{Own, thread_step}
-use Rattle.mr_exchange.specs.Swap.{IsSane, SwapLaw}
-use Rattle.mr_exchange.proofs.Exchanged.{NotesThread}
-use Rattle.mr_exchange.specs.Witness.{entry_at}
+use Rattle.mr_base.specs.declared.reason.Verdict.TheVariants as verdict
 use Rattle.mr_witness.proofs.Runs.{never_raced as never_raced_itself}
 use Rattle.mr_witness.proofs.Recorded.{config, none_legal}
 use Rattle.mr_witness.proofs.Replayed.{AreCalm, last_of, legal_enabled}
-use Rattle.mr_witness.specs.EveryOrder.{StandAlike, prints_of}
 use Rattle.mr_witness.proofs.OrderMoves.{AreSame, Goes, Place, machine}
 
 -- ---- the verdict behind steps that aren't reported

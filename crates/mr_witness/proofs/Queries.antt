@@ -1,25 +1,20 @@
 -- No query is refused with a data race.
-use Rattle.std.proofs.Common.{ℕ, refl, List, Bool, true, false, Option, Some, None, Result, Ok, Err}
-use Rattle.std.specs.Prelude.{◌==◌, if◌then◌else◌, slice_get}
+use Rattle.mr_witness.proofs.Common.{ℕ, refl, List, Bool, true, false, Option, Some, None, Result, Ok, Err, ◌==◌, if◌then◌else◌, slice_get, Pointer, Reason, number_of, Broken, Outcome, Refused, Went, on, Allocate, Check, answered, OfMemory, Shared, answer}
 use Rattle.mr_base.specs.declared.reached.Reaching.TheVariants.{Changes}
 use Rattle.mr_base.specs.declared.byte.AbstractByte.{AbstractByte}
 use Rattle.mr_base.specs.declared.byte.Kind.{Kind}
-use Rattle.mr_base.specs.declared.byte.Pointer.{Pointer}
-use Rattle.mr_base.specs.declared.reason.Reason.{Reason}
 use Rattle.mr_base.specs.declared.reason.Reason.TheVariants.{DanglingReference, NotHolder}
 use Rattle.mr_base.specs.declared.thread.Event.{Event}
 use Rattle.mr_base.specs.declared.thread.Event.TheVariants.{Acquire, Join, Release}
 use Rattle.mr_eval.proofs.MemSpeakingLaws.{checked_speaks, freed_speaks, read_speaks, written_speaks}
 use Rattle.mr_eval.specs.MemMemory.{Memory, checked, freed, read, written}
-use Rattle.mr_value.specs.Numbers.{number_of}
-use Rattle.mr_base.specs.Script.{Broken, Outcome, Refused, Went, on}
 use Rattle.mr_exchange.specs.SyncTables.{Tables, acquired, any_waits, awaiting, ended, holding, joined, over, released, trying}
-use Rattle.mr_eval.specs.MemoryQueries.{Allocate, Free, MemoryQuery, Modify, Reading, Write, changing, memory_answer, modifying, number_bytes, replacing}
-use Rattle.mr_eval.specs.Reads.{Check, Read, ReadQuery, Refer, Seen, answered, lending, named, reading}
+use Rattle.mr_eval.specs.MemoryQueries.{Free, MemoryQuery, Modify, Reading, Write, changing, memory_answer, modifying, number_bytes, replacing}
+use Rattle.mr_eval.specs.Reads.{Read, ReadQuery, Refer, Seen, lending, named, reading}
 use Rattle.mr_eval.specs.Stores.{storing}
 use Rattle.mr_eval.specs.Tally.{Tally}
 use Rattle.mr_exchange.specs.PlanNotes.{Notes}
-use Rattle.mr_exchange.specs.PlanQueries.{Await, Finish, NewLock, OfMemory, Print, Query, Shared, Start, TryLock, Unlock, Waiting, answer, blocked, ending, fits, giving, going, in_shared, note, tables_of, telling, with_tables, woke}
+use Rattle.mr_exchange.specs.PlanQueries.{Await, Finish, NewLock, Print, Query, Start, TryLock, Unlock, Waiting, blocked, ending, fits, giving, going, in_shared, note, tables_of, telling, with_tables, woke}
 use Rattle.mr_witness.proofs.Calm.{CalmOutcome, CalmResult, calm_answered, calm_on, spoken_result}
 
 -- ---- memory

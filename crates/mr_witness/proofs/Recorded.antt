@@ -1,23 +1,7 @@
 -- The recorded run of legal entries, as moves.
-use Rattle.std.proofs.Common.{◌≡◌, ℕ, suc, zero, ◌+◌, ◌<◌, ◌≤◌, refl, ◌∙◌, ap, subst, arith, List, [], ◌∷◌, ◌++◌, length, Bool, true, false, Option, Some, None, add-zero}
-use Rattle.std.specs.List.{range_with_len}
-use Rattle.std.specs.Prelude.{slice_index_or, if◌then◌else◌}
-use Rattle.mr_base.specs.declared.reason.Verdict.{Verdict}
-use Rattle.mr_event.specs.Footprint.{Footprint}
-use Rattle.mr_event.specs.Order.{no_step, step_at}
-use Rattle.mr_exchange.specs.Trace.{Runs}
-use Rattle.mr_sched.specs.declared.schedule.Entry.{Entry}
-use Rattle.mr_witness.specs.TypingWalk.{WellFormed}
-use Rattle.mr_witness.specs.PlanLegal.{fault, state_fault}
-use Rattle.mr_witness.specs.PlanMachine.{Bare, Completed, IllFormedStep, Language, State, Stops, bare}
-use Rattle.mr_witness.specs.PlanRuns.{AreLegal, Config, Printed, after_bare, entry_fault, fault_in, feet, foot_of_bare, is_running, machine_step}
-use Rattle.mr_witness.specs.FrameFits.{IsLook}
-use Rattle.mr_witness.specs.FrameFrames.{Look}
-use Rattle.mr_witness.specs.ThreadSoundState.{SoundState}
-use Rattle.mr_witness.specs.StartSteps.{Own, thread_step}
-use Rattle.mr_exchange.specs.Swap.{IsSane, SwapLaw}
-use Rattle.mr_exchange.proofs.Exchanged.{NotesThread, sound_then}
-use Rattle.mr_exchange.specs.Witness.{entry_at}
+use Rattle.mr_witness.proofs.Common.{◌≡◌, ℕ, suc, zero, ◌+◌, ◌<◌, ◌≤◌, refl, ◌∙◌, ap, subst, arith, List, [], ◌∷◌, ◌++◌, length, Bool, true, false, Option, Some, None, add-zero, range_with_len, slice_index_or, if◌then◌else◌, Verdict, Footprint, no_step, step_at, Runs, Entry, WellFormed, state_fault, Bare, Completed, IllFormedStep, Language, State, Stops, bare, AreLegal, Config, Printed, after_bare, entry_fault, feet, foot_of_bare, machine_step, IsLook, Look, SoundState, Own, thread_step, IsSane, SwapLaw, NotesThread, sound_then, entry_at}
+use Rattle.mr_witness.specs.PlanLegal.{fault}
+use Rattle.mr_witness.specs.PlanRuns.{fault_in, is_running}
 use Rattle.mr_witness.proofs.Moves.{Kept, Takes, machine}
 use Rattle.mr_sched.specs.declared.rule.ScheduleRule.TheVariants as rule
 

@@ -1,33 +1,14 @@
 -- Moves as a run of entries: each but the last goes, and behind the last the machine reports the data race.
-use Rattle.std.proofs.Common.{◌≡◌, ℕ, suc, zero, ◌+◌, refl, sym, ◌∙◌, ap, subst, inl, inr, List, [], ◌∷◌, ◌++◌, map, Bool, true, false, not, ◌&&◌, Option, Some, None}
-use Rattle.std.specs.Prelude.{◌==◌, ◌||◌, slice_get}
-use Rattle.std.specs.List.{list_any}
-use Rattle.std.proofs.lemmas.Bool.{both_ways, cases_Bool, eqb-true, eq-eqb}
-use Rattle.mr_base.specs.Accesses.{some_race}
-use Rattle.mr_base.specs.declared.reason.Reason.TheVariants.{DataRace}
-use Rattle.mr_base.specs.declared.reason.Verdict.TheVariants as verdict
+use Rattle.mr_witness.proofs.Common.{◌≡◌, ℕ, suc, zero, ◌+◌, refl, sym, ◌∙◌, ap, subst, inl, inr, List, [], ◌∷◌, ◌++◌, map, Bool, true, false, not, ◌&&◌, Option, Some, None, ◌==◌, slice_get, list_any, both_ways, cases_Bool, eqb-true, eq-eqb, some_race, DataRace, Footprint, wakes, step_at, thread_at, IsReported, Runs, Entry, WellFormed, state_fault, Bare, Language, State, bare, AreLegal, Config, Printed, after, after_bare, feet, foot_in, foot_of_bare, machine_step, entry_fault, printed_by, races_with, verdict_after, IsLook, Look, SoundState, Own, thread_step, IsSane, SwapLaw, NotesThread, entry_at}
+use Rattle.std.specs.Prelude.{◌||◌}
 use Rattle.mr_base.specs.declared.thread.Status.{Status}
 use Rattle.mr_base.specs.declared.thread.Status.TheVariants.{Enabled, Ended, OnJoin, OnLock}
-use Rattle.mr_event.specs.Footprint.{Footprint}
-use Rattle.mr_event.specs.Footprints.{wakes}
-use Rattle.mr_event.specs.Order.{step_at, thread_at}
 use Rattle.mr_exchange.specs.Shown.{AreAdjacent, NextIs}
-use Rattle.mr_exchange.specs.Trace.{IsReported, Runs}
-use Rattle.mr_sched.specs.declared.schedule.Entry.{Entry}
 use Rattle.mr_exchange.specs.SyncTables.{is_any_enabled, is_enabled}
-use Rattle.mr_witness.specs.TypingWalk.{WellFormed}
-use Rattle.mr_witness.specs.PlanLegal.{state_fault, status_fault}
-use Rattle.mr_witness.specs.PlanMachine.{Bare, Language, State, bare}
+use Rattle.mr_witness.specs.PlanLegal.{status_fault}
 use Rattle.mr_witness.specs.PlanQueries.{tables_of}
-use Rattle.mr_witness.specs.PlanRuns.{AreLegal, Config, Printed, after, after_bare, feet, foot_in, foot_of_bare, machine_step, entry_fault, printed_by, races_with, verdict_after}
+use Rattle.mr_base.specs.declared.reason.Verdict.TheVariants as verdict
 use Rattle.mr_witness.proofs.PlanLegalLaws.{no_faults}
-use Rattle.mr_witness.specs.FrameFits.{IsLook}
-use Rattle.mr_witness.specs.FrameFrames.{Look}
-use Rattle.mr_witness.specs.ThreadSoundState.{SoundState}
-use Rattle.mr_witness.specs.StartSteps.{Own, thread_step}
-use Rattle.mr_exchange.specs.Swap.{IsSane, SwapLaw}
-use Rattle.mr_exchange.proofs.Exchanged.{NotesThread}
-use Rattle.mr_exchange.specs.Witness.{entry_at}
 use Rattle.mr_witness.proofs.Moves.{Kept, Takes, machine}
 use Rattle.mr_witness.proofs.Recorded.{config}
 

@@ -1,16 +1,6 @@
 -- The copies of the marked entries and of the two steps' are the short schedule.
-use Rattle.std.proofs.Common.{◌≡◌, ℕ, sym, ◌∙◌, ap, arith, List, [], ◌∷◌, ◌++◌, map, Bool, false, not, ◌&&◌}
-use Rattle.std.specs.Prelude.{◌==◌, slice_index_or}
-use Rattle.std.specs.List.{filter}
-use Rattle.mr_event.specs.Footprint.{Footprint}
-use Rattle.mr_event.specs.Order.{places}
-use Rattle.mr_exchange.specs.Trace.{IsFirstPair, short_keeps}
-use Rattle.mr_exchange.proofs.Lists.{Each-places, Each-weaker, filter-agree}
-use Rattle.mr_sched.specs.declared.schedule.Schedule.{Schedule}
-use Rattle.mr_exchange.specs.Witness.{entry_at}
+use Rattle.mr_witness.proofs.Common.{◌≡◌, ℕ, sym, ◌∙◌, ap, arith, List, [], ◌∷◌, ◌++◌, map, Bool, false, not, ◌&&◌, ◌==◌, slice_index_or, filter, Footprint, places, IsFirstPair, short_keeps, Each-places, Each-weaker, filter-agree, Schedule, entry_at, AreMarks, short_schedule}
 use Rattle.mr_witness.proofs.Lists.{map_append}
-use Rattle.mr_witness.specs.Marks.{AreMarks}
-use Rattle.mr_witness.specs.Short.{short_schedule}
 use Rattle.mr_witness.proofs.Needed.{marked_kept}
 
 pub both_copied : (run : List Footprint) (w v : Schedule) (i j : ℕ) (marks : List Bool) → IsFirstPair run i j → AreMarks run j marks

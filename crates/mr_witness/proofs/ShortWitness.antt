@@ -1,20 +1,6 @@
 -- The short schedule of the first pair is a witness.
-use Rattle.std.proofs.Common.{◌≡◌, ℕ, refl, sym, ◌∙◌, ap, subst, List, map}
-use Rattle.mr_ast.specs.declared.program.Program.{Program}
-use Rattle.mr_event.specs.Footprint.{Footprint}
-use Rattle.mr_event.specs.Order.{step_at}
-use Rattle.mr_exchange.specs.Trace.{IsFirstPair}
-use Rattle.mr_exchange.proofs.Choices.{short_selects}
-use Rattle.mr_sched.specs.declared.schedule.Schedule.{Schedule}
-use Rattle.mr_witness.specs.TypingWalk.{WellFormed}
-use Rattle.mr_exchange.specs.StartRuns.{Legal, run_of, steps_of}
-use Rattle.mr_exchange.specs.StartStart.{look_of, start_config}
-use Rattle.mr_exchange.proofs.StartStartSound.{start_look, start_sound}
-use Rattle.mr_exchange.proofs.Sane.{sound_is_sane}
-use Rattle.mr_exchange.proofs.Law.{law_of, thread_noted}
-use Rattle.mr_exchange.specs.Witness.{IsWitness, schedule_at}
+use Rattle.mr_witness.proofs.Common.{◌≡◌, ℕ, refl, sym, ◌∙◌, ap, subst, List, map, Program, Footprint, step_at, IsFirstPair, short_selects, Schedule, WellFormed, Legal, run_of, steps_of, look_of, start_config, start_look, start_sound, sound_is_sane, law_of, thread_noted, IsWitness, schedule_at, short_schedule}
 use Rattle.mr_witness.proofs.Shown.{choice_shows}
-use Rattle.mr_witness.specs.Short.{short_schedule}
 
 -- THE SHORT SCHEDULE IS A WITNESS, of every well-formed program under a legal schedule
 short_is_witness : (p : Program) (w : Schedule) → WellFormed p → Legal p w → (i j : ℕ) → IsFirstPair (steps_of p w) i j → IsWitness p w i j (short_schedule (steps_of p w) w i j)

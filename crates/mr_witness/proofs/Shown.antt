@@ -1,28 +1,10 @@
 -- A choice of recorded steps, taken alone, brings the machine to the first pair side by side.
-use Rattle.std.proofs.Common.{◌≡◌, ℕ, suc, ◌+◌, ◌-◌, ◌<◌, ◌≤◌, refl, sym, ◌∙◌, ap, subst, arith, List, [], ◌∷◌, ◌++◌, map, length, Bool, Option, Some, None, append_assoc, zero-add, append-nil}
-use Rattle.std.specs.Prelude.{◌==◌}
-use Rattle.std.specs.List.{filter, range_with_len}
-use Rattle.std.proofs.lemmas.List.Elements.{filter-append}
-use Rattle.mr_base.specs.declared.reason.Reason.TheVariants.{DataRace}
-use Rattle.mr_base.specs.declared.reason.Verdict.TheVariants as verdict
-use Rattle.mr_event.specs.Footprint.{Footprint}
-use Rattle.mr_event.specs.Kept.{selected}
-use Rattle.mr_event.specs.Order.{places, step_at, thread_at}
+use Rattle.mr_witness.proofs.Common.{◌≡◌, ℕ, suc, ◌+◌, ◌-◌, ◌<◌, ◌≤◌, refl, sym, ◌∙◌, ap, subst, arith, List, [], ◌∷◌, ◌++◌, map, length, Bool, Option, Some, None, append_assoc, zero-add, append-nil, ◌==◌, filter, range_with_len, filter-append, DataRace, Footprint, selected, places, step_at, thread_at, IsFirstPair, Runs, Each, Each-weaker, filter-agree, range_with_len-parts, Entry, WellFormed, Bare, Completed, State, bare, AreLegal, Config, Printed, after, entry_fault, feet, foot_of_bare, machine_step, IsLook, Look, SoundState, Own, thread_step, IsSane, SwapLaw, NotesThread, entry_at}
 use Rattle.mr_exchange.specs.Shown.{IsShown, steps_of}
-use Rattle.mr_exchange.specs.Trace.{IsFirstPair, Runs, Selects}
-use Rattle.mr_exchange.proofs.Lists.{Each, Each-weaker, filter-agree, range_with_len-parts}
+use Rattle.mr_exchange.specs.Trace.{Selects}
 use Rattle.mr_exchange.proofs.Witness.{selected_is_shown}
-use Rattle.mr_sched.specs.declared.schedule.Entry.{Entry}
-use Rattle.mr_witness.specs.TypingWalk.{WellFormed}
-use Rattle.mr_witness.specs.PlanMachine.{Bare, Completed, State, bare}
-use Rattle.mr_witness.specs.PlanRuns.{AreLegal, Config, Printed, after, entry_fault, feet, foot_of_bare, machine_step}
-use Rattle.mr_witness.specs.FrameFits.{IsLook}
-use Rattle.mr_witness.specs.FrameFrames.{Look}
-use Rattle.mr_witness.specs.ThreadSoundState.{SoundState}
-use Rattle.mr_witness.specs.StartSteps.{Own, thread_step}
-use Rattle.mr_exchange.specs.Swap.{IsSane, SwapLaw}
-use Rattle.mr_exchange.proofs.Exchanged.{NotesThread}
-use Rattle.mr_exchange.specs.Witness.{IsPrefix, entries_of, entry_at}
+use Rattle.mr_exchange.specs.Witness.{IsPrefix, entries_of}
+use Rattle.mr_base.specs.declared.reason.Verdict.TheVariants as verdict
 use Rattle.mr_witness.proofs.Lists.{after_append, feet_append, feet_length, filter_map, legal_append, map_append, map_places}
 use Rattle.mr_witness.proofs.Moves.{Kept, Takes, machine, runs_threads}
 use Rattle.mr_witness.proofs.Recorded.{config, recorded}

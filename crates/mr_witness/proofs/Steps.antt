@@ -1,25 +1,11 @@
 -- No step of a thread is refused with a data race.
-use Rattle.std.proofs.Common.{◌≡◌, ℕ, refl, List, [], ◌∷◌, ◌-◌, ◌^◌, Bool, true, false, Option, Some, None}
-use Rattle.std.specs.Prelude.{if◌then◌else◌, nat_lt, slice_get}
-use Rattle.mr_eval.specs.Typed.{meaningless}
-use Rattle.mr_base.specs.Stops.{plainly}
+use Rattle.mr_witness.proofs.Common.{◌≡◌, ℕ, refl, List, [], ◌∷◌, ◌-◌, ◌^◌, Bool, true, false, Option, Some, None, if◌then◌else◌, nat_lt, slice_get, meaningless, plainly, Ty, out-Ty, Pointer, SignatureMismatch, Val, out-Val, number_of, Ask, Done, IllFormed, Undefined, ◌>>=◌, Allocate, MemoryScript, reading_part, or_ill_formed, pointer_in, ReadScript, OfMemory, StepScript, memory_part}
 use Rattle.mr_ast.specs.declared.program.Function.{Function}
 use Rattle.mr_ast.specs.declared.program.Intrinsic.{Intrinsic}
-use Rattle.mr_ast.specs.declared.program.Intrinsic.TheVariants as intrinsic
-use Rattle.mr_ast.specs.declared.types.Ty.{Ty, out-Ty}
 use Rattle.mr_base.specs.declared.byte.Kind.TheVariants.{Heap}
-use Rattle.mr_base.specs.declared.byte.Pointer.{Pointer}
-use Rattle.mr_base.specs.declared.reason.Reason.TheVariants.{BadAlign, SignatureMismatch, SizeTooLarge}
+use Rattle.mr_base.specs.declared.reason.Reason.TheVariants.{BadAlign, SizeTooLarge}
 use Rattle.mr_sched.specs.declared.schedule.Ask.TheVariants.{Address, Waiter}
-use Rattle.mr_value.specs.declared.val.Val.{Val, out-Val}
-use Rattle.mr_value.specs.declared.val.Val.TheVariants as val
-use Rattle.mr_value.specs.Numbers.{number_of}
-use Rattle.mr_base.specs.Script.{Ask, Done, IllFormed, Undefined, ◌>>=◌}
-use Rattle.mr_eval.specs.MemoryQueries.{Allocate, MemoryScript, reading_part}
-use Rattle.mr_eval.specs.Operators.{or_ill_formed, pointer_in}
-use Rattle.mr_eval.specs.Reads.{ReadScript}
 use Rattle.mr_exchange.specs.PlanMachine.{CreatesThread, Plan}
-use Rattle.mr_exchange.specs.PlanQueries.{OfMemory, StepScript, memory_part}
 use Rattle.mr_exchange.specs.StartFrameCalls.{callee_of, enter, kept_types, same_types, storage_asks}
 use Rattle.mr_exchange.specs.StartFrameFrames.{Aborts, EndsThread, Exits, GoesOn, Look, Onward}
 use Rattle.mr_exchange.specs.StartFrameOperations.{DueDo, Operands, finish, next_do, operands}
@@ -28,10 +14,12 @@ use Rattle.mr_exchange.specs.StartIntrOperations.{Operation, acquire, allocate, 
 use Rattle.mr_exchange.specs.StartIntrTexts.{text_of, texts_of}
 use Rattle.mr_exchange.proofs.StartIntrEachOperation.{of_operation}
 use Rattle.mr_exchange.specs.StartSteps.{Own, Turn, TurnPlan, do_step, finished, finishing, frame_step, in_step, last_payload, new_thread, onward, operated, own_step, spawn, spawn_function, spawn_number, spawn_types, start, step_due, thread_types}
+use Rattle.mr_eval.specs.TypingTypes.{integer_in}
+use Rattle.mr_ast.specs.declared.program.Intrinsic.TheVariants as intrinsic
+use Rattle.mr_value.specs.declared.val.Val.TheVariants as val
 use Rattle.mr_witness.proofs.Calm.{Anything, Calms, calms_then, memory_calms, reading_calms}
 use Rattle.mr_witness.proofs.Expressions.{Reads, found_reads}
 use Rattle.mr_witness.proofs.Frames.{Acts, PlanActs, enter_acts, finish_acts, frame_plans, operands_read}
-use Rattle.mr_eval.specs.TypingTypes.{integer_in}
 
 -- a script of a step, or of a part of one
 abbrev Steps : {A : Type 0} → StepScript A → Type 0

@@ -1,12 +1,8 @@
 -- Brackets that are counted from the front on.
-use Rattle.std.proofs.Common.{◌≡◌, ℕ, zero, suc, ◌+◌, ◌-◌, ◌==◌, ◌<◌, ◌≤◌, Bool, true, false, ◌&&◌, nat_le, if◌then◌else◌, List, [], ◌∷◌, length, get_or, take, drop, refl, sym, ap, ◌∙◌, arith}
-use Rattle.std.specs.List.{count_by}
+use Rattle.mr_words.proofs.Common.{◌≡◌, ℕ, zero, suc, ◌+◌, ◌-◌, ◌==◌, ◌<◌, ◌≤◌, Bool, true, false, ◌&&◌, nat_le, if◌then◌else◌, List, [], ◌∷◌, length, get_or, take, drop, refl, sym, ap, ◌∙◌, arith, count_by, Word, text_at, closes, opens}
 use Rattle.std.proofs.lemmas.List.Sums.{count_by_more_no, count_by_more_yes}
-use Rattle.mr_ast.specs.Forms.{Word}
 use Rattle.mr_words.specs.declared.fault.Stop.{Stop}
-use Rattle.mr_words.specs.Defined.{text_at}
-use Rattle.mr_words.specs.Brackets.{closes, is_bracket_too_many, opens}
-use Rattle.mr_words.specs.Brackets.{told}
+use Rattle.mr_words.specs.Brackets.{is_bracket_too_many, told}
 
 abbrev only_text : List ℕ → Word
 only_text text = record { text = text; place = 0 }

@@ -1,7 +1,7 @@
 -- The place at the end of a text, counted from its begin.
-use Rattle.std.proofs.Common.{◌≡◌, ℕ, ◌+◌, ◌==◌, ◌<◌, ◌≤◌, Bool, true, false, not, if◌then◌else◌, List, length, get_or, take, drop, refl, sym, ap, subst, arith, length-take}
+use Rattle.mr_words.proofs.Common.{◌≡◌, ℕ, ◌+◌, ◌==◌, ◌<◌, ◌≤◌, Bool, true, false, not, if◌then◌else◌, List, length, get_or, take, drop, refl, sym, ap, subst, arith, AllByRecursion}
+use Rattle.std.proofs.Common.{length-take}
 use Rattle.std.specs.Prelude.{IsTrue}
-use Rattle.std.specs.List.{AllByRecursion}
 use Rattle.std.proofs.lemmas.List.{drop_more}
 use Rattle.std.proofs.lemmas.List.Sums.{count_by-le-length}
 use Rattle.mr_lex.specs.Bytes.{is_inline}

@@ -1,4 +1,5 @@
 pub mod BracketCounts
+mod Common
 pub mod EndLaws
 pub mod NamingLaws
 pub mod PlaceLaws

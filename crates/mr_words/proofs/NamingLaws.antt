@@ -1,19 +1,18 @@
 -- Names that are held one after another.
-use Rattle.std.proofs.Common.{◌≡◌, ◌≢◌, ℕ, zero, suc, ◌+◌, ◌<◌, ◌≤◌, Bool, true, false, not, ◌||◌, ◌&&◌, List, [], ◌∷◌, ◌++◌, length, get_or, slice_get, Option, Some, None, refl, sym, ap, ◌∙◌, append_assoc, arith, map, take, inl, inr, bytes_eq, position, if◌then◌else◌, length-append}
+use Rattle.mr_words.proofs.Common.{◌≡◌, ℕ, zero, suc, ◌+◌, ◌<◌, ◌≤◌, Bool, true, false, not, ◌||◌, ◌&&◌, List, [], ◌∷◌, ◌++◌, length, get_or, slice_get, Option, Some, None, refl, sym, ap, ◌∙◌, arith, map, take, inl, inr, bytes_eq, position, if◌then◌else◌, nat_lt, slice_index_or, flat_map, fold, list_any, position_or_len, Definitions, FunctionNames, all_names, each_once, function_names, is_number, item_names, number_in, with_text, length-with_text, Texts, reserved, names_in}
+use Rattle.std.proofs.Common.{◌≢◌, append_assoc, length-append}
 use Rattle.std.proofs.lemmas.List.{flat_map_more, map-append, take_more}
 use Rattle.std.proofs.lemmas.List.Sums.{fold-append}
-use Rattle.std.specs.Prelude.{IfSome, IfNone, nat_lt, slice_index_or}
-use Rattle.std.specs.List.{flat_map, fold, list_all, list_any, position_or_len}
+use Rattle.std.specs.Prelude.{IfSome, IfNone}
+use Rattle.std.specs.List.{list_all}
 use Rattle.std.specs.Str.{IsAscii}
 use Rattle.std.proofs.lemmas.Bool.{and_parts, false_from_ne_true}
 use Rattle.std.proofs.lemmas.Bool.Decides.{nat_tests}
 use Rattle.std.proofs.lemmas.Option.{slice_get_within}
 use Rattle.std.proofs.lemmas.Slice.Eq.{bytes_eq-Decides}
 use Rattle.mr_ast.specs.Names.{IsFirst}
-use Rattle.mr_ast.specs.Scope.{Definitions, FunctionNames, all_names, each_once, function_names, is_number, item_names, number_in, with_text}
-use Rattle.mr_ast.proofs.TextsLaws.{length-with_text}
-use Rattle.mr_ast.specs.Words.{Texts, first_passes, begins_name, is_in_name, is_name, reserved}
-use Rattle.mr_words.specs.Naming.{IsAmong, names_in}
+use Rattle.mr_ast.specs.Words.{first_passes, begins_name, is_in_name, is_name}
+use Rattle.mr_words.specs.Naming.{IsAmong}
 use Rattle.mr_words.proofs.ScopeLaws.{function_any, items_any, number_any}
 
 -- ---- names are ASCII

@@ -1,12 +1,7 @@
 -- The words of tokens from a place on.
-use Rattle.std.proofs.Common.{◌≡◌, ℕ, zero, suc, ◌+◌, ◌-◌, ◌≤◌, List, [], ◌∷◌, ◌++◌, map, length, drop, Option, Some, None, slice_get, refl, ap, sym, ◌∙◌, subst, arith}
-use Rattle.std.specs.List.{AllByRecursion}
-use Rattle.std.proofs.lemmas.List.{append_assoc, drop_all, length-append, length-map}
-use Rattle.mr_ast.specs.Forms.{Word}
-use Rattle.mr_ast.specs.Words.{Texts}
+use Rattle.mr_words.proofs.Common.{◌≡◌, ℕ, zero, suc, ◌+◌, ◌-◌, ◌≤◌, List, [], ◌∷◌, ◌++◌, map, length, drop, Option, Some, None, slice_get, refl, ap, sym, ◌∙◌, subst, arith, AllByRecursion, length-append, length-map, Word, Texts, numbered, words_from, words_of, text_at}
+use Rattle.std.proofs.lemmas.List.{append_assoc, drop_all}
 use Rattle.mr_lex.specs.Tokens.{Lexeme}
-use Rattle.mr_words.specs.Places.{numbered, words_from, words_of}
-use Rattle.mr_words.specs.Defined.{text_at}
 
 -- the first of the words
 pub words_here : (lexemes : List Lexeme) (k : ℕ) (l : Lexeme) → Some l ≡ slice_get lexemes k

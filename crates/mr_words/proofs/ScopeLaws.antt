@@ -1,19 +1,16 @@
 -- What names stand for, where the text's definitions are known: positions.
-use Rattle.std.proofs.Common.{◌≡◌, ℕ, zero, suc, ◌+◌, ◌-◌, ◌≤◌, ◌<◌, ◌||◌, ◌⊎◌, inl, inr, Bool, true, false, if◌then◌else◌, List, [], ◌∷◌, ◌++◌, length, map, flat_map, bytes_eq, slice_index_or, Option, None, Some, refl, ap, sym, ◌∙◌, arith}
-use Rattle.std.specs.Prelude.{nat_lt}
-use Rattle.std.specs.List.{fold, list_any, position_or_len}
+use Rattle.mr_words.proofs.Common.{◌≡◌, ℕ, zero, suc, ◌+◌, ◌-◌, ◌≤◌, ◌<◌, ◌||◌, inl, inr, Bool, true, false, if◌then◌else◌, List, [], ◌∷◌, ◌++◌, length, map, bytes_eq, slice_index_or, Option, None, Some, refl, ap, sym, ◌∙◌, arith, nat_lt, fold, list_any, position_or_len, length-append, length-map, Definitions, FunctionNames, all_names, as_function, as_global, each_once, function_names, is_number, item_names, names_of, number_in, number_of_name, used_in, with_text, Texts}
+use Rattle.std.proofs.Common.{◌⊎◌, flat_map}
 use Rattle.std.proofs.Math.Bool.{or-false}
 use Rattle.std.proofs.lemmas.Bool.{or_cases, or_left, or_right}
 use Rattle.std.proofs.lemmas.Bool.Decides.{nat_tests}
-use Rattle.std.proofs.lemmas.List.{length-append, length-map}
 use Rattle.std.proofs.lemmas.List.Folds.{list_any-append, list_any_at}
 use Rattle.std.proofs.lemmas.List.Quantifiers.{position-Some}
 use Rattle.std.proofs.lemmas.Slice.Eq.{bytes_eq-Decides}
 use Rattle.mr_base.proofs.Comparisons.{lt_from}
 use Rattle.mr_ast.specs.declared.words.Role.TheVariants.{DefinesGlobal, DefinesFunction, DefinesLocal, DefinesBlock, UsesGlobal, UsesFunction, UsesLocal, UsesBlock}
-use Rattle.mr_ast.specs.Scope.{Definitions, FunctionNames, Scope, all_names, as_function, as_global, defined_in, each_once, function_names, is_number, item_names, names_of, number_in, number_of_name, used_in, with_text}
+use Rattle.mr_ast.specs.Scope.{Scope, defined_in}
 use Rattle.mr_ast.specs.ShapedValues.{Named}
-use Rattle.mr_ast.specs.Words.{Texts}
 
 -- in the function of this number, of a text that defines these names
 abbrev pub scope_at : Definitions → ℕ → Scope

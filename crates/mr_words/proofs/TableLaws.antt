@@ -1,8 +1,8 @@
 -- The words that stand in a table.
-use Rattle.std.proofs.Common.{◌≡◌, ℕ, Bool, true, false, ◌||◌, List, [], ◌∷◌, ◌++◌, refl, ap, ◌∙◌, bytes_eq, codes}
+use Rattle.mr_words.proofs.Common.{◌≡◌, ℕ, Bool, true, false, ◌||◌, List, [], ◌∷◌, ◌++◌, refl, ap, ◌∙◌, bytes_eq, list_any, Texts, looked_up, reserved}
+use Rattle.std.proofs.Common.{codes}
 use Rattle.std.specs.Prelude.{is_some}
-use Rattle.std.specs.List.{list_any}
-use Rattle.mr_ast.specs.Words.{Table, Texts, looked_up, reserved, stmt_words, term_words, texts_of}
+use Rattle.mr_ast.specs.Words.{Table, stmt_words, term_words, texts_of}
 
 -- a word is among those of a table where it stands for something there
 is_listed : {X : Type 0} (table : Table X) (more : Texts) (text : List ℕ) → list_any (bytes_eq text) (texts_of table ++ more) ≡ (is_some (looked_up table text) || list_any (bytes_eq text) more)

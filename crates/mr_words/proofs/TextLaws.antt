@@ -1,8 +1,6 @@
 -- The text of the word at a place.
-use Rattle.std.proofs.Common.{◌≡◌, ℕ, zero, suc, List, [], ◌∷◌, map, Option, Some, None, slice_get, refl, sym, ap, ◌∙◌}
+use Rattle.mr_words.proofs.Common.{◌≡◌, ℕ, zero, suc, List, [], ◌∷◌, map, Option, Some, None, slice_get, refl, sym, ap, ◌∙◌, text_at, numbered, words_from, words_of}
 use Rattle.mr_lex.specs.Tokens.{Lexeme}
-use Rattle.mr_words.specs.Defined.{text_at}
-use Rattle.mr_words.specs.Places.{numbered, words_from, words_of}
 
 -- the text of a token, or none
 abbrev pub text_of : Option Lexeme → List ℕ

@@ -1,7 +1,5 @@
 -- What a script prints, by its form.
-use Rattle.std.proofs.Common.{◌≡◌, ℕ, refl, sym, subst, List, Bool, true, false, Option, Some, None, Result, Ok, Err}
-use Rattle.std.specs.Prelude.{All, if◌then◌else◌, slice_get}
-use Rattle.std.specs.List.{list_all}
+use Rattle.mr_answer.proofs.Common.{◌≡◌, ℕ, refl, sym, subst, List, Bool, true, false, Option, Some, None, Result, Ok, Err, All, if◌then◌else◌, slice_get, list_all, is_printed}
 use Rattle.std.proofs.lemmas.List.Elements.{All-push}
 use Rattle.mr_base.specs.declared.reason.Reason.{Reason}
 use Rattle.mr_base.specs.declared.thread.Event.{Event}
@@ -15,7 +13,6 @@ use Rattle.mr_step.specs.PlanNotes.{Notes}
 use Rattle.mr_step.specs.PlanQueries.{Await, Finish, NewLock, OfMemory, Print, Query, Reply, Shared, Start, StepScript, TryLock, Unlock, Waiting, answer, blocked, ending, fits, giving, going, in_shared, memory_part, note, tables_of, telling, with_tables, woke}
 use Rattle.mr_step.proofs.PlanWentLaws.{at_outcome}
 use Rattle.mr_step.proofs.FrameStorageSteps.{Leads}
-use Rattle.mr_report.specs.Json.{is_printed}
 
 -- a text of digits, small letters, `-` and space
 abbrev pub IsPlain : List ℕ → Type 0

@@ -1,20 +1,14 @@
 -- What runs print.
-use Rattle.std.proofs.Common.{◌≡◌, ℕ, refl, List, [], ◌∷◌, map, true, Option, Some, None}
-use Rattle.std.specs.Prelude.{All}
-use Rattle.std.specs.List.{list_all}
-use Rattle.std.proofs.lemmas.List.Elements.{All-append, All-cons, All-head, All-nil, All-tail}
-use Rattle.mr_ast.specs.declared.program.Program.{Program}
+use Rattle.mr_answer.proofs.Common.{◌≡◌, ℕ, refl, List, [], ◌∷◌, map, true, Option, Some, None, All, list_all, All-cons, All-head, All-nil, All-tail, Program, Schedule, Config, Printed, Own, run_of, is_printed}
+use Rattle.std.proofs.lemmas.List.Elements.{All-append}
 use Rattle.mr_sched.specs.declared.schedule.Entry.{Entry}
-use Rattle.mr_sched.specs.declared.schedule.Schedule.{Schedule}
 use Rattle.mr_step.specs.PlanMachine.{Bare, Completed, Goes, IllFormedStep, State, Stops, bare}
 use Rattle.mr_step.specs.PlanNotes.{Notes, start_notes}
-use Rattle.mr_step.specs.PlanRuns.{Config, Printed, after, after_bare, machine_step, printed_by, stepped_from}
+use Rattle.mr_step.specs.PlanRuns.{after, after_bare, machine_step, printed_by, stepped_from}
 use Rattle.mr_step.specs.FrameFrames.{Look}
-use Rattle.mr_step.specs.ThreadSteps.{Own, thread_step}
-use Rattle.mr_step.specs.StartRuns.{run_of}
+use Rattle.mr_step.specs.ThreadSteps.{thread_step}
 use Rattle.mr_step.specs.StartStart.{look_of, start_config}
 use Rattle.mr_step.proofs.SwapBareSteps.{taken, whole, whole_run}
-use Rattle.mr_report.specs.Json.{is_printed}
 use Rattle.mr_answer.proofs.Printing.Prints.{Anything, IsPlain, run_prints}
 use Rattle.mr_answer.proofs.Printing.Steps.{whole_prints}
 

@@ -1,18 +1,15 @@
 -- A step prints the texts of integers and bools alone.
-use Rattle.std.proofs.Common.{◌≡◌, ℕ, refl, ◌∙◌, List, [], ◌∷◌, ◌++◌, ◌-◌, ◌^◌, ◌%◌, arith, Bool, true, false, Option, Some, None, decimal}
-use Rattle.std.specs.Prelude.{All, if◌then◌else◌, nat_lt, slice_get}
+use Rattle.mr_answer.proofs.Common.{◌≡◌, ℕ, refl, ◌∙◌, List, [], ◌∷◌, ◌++◌, arith, Bool, true, false, Option, Some, None, All, if◌then◌else◌, slice_get, list_all, All-cons, All-head, All-nil, All-tail, Own, is_printed}
+use Rattle.std.proofs.Common.{◌-◌, ◌^◌, ◌%◌, decimal}
+use Rattle.std.specs.Prelude.{nat_lt}
 use Rattle.std.specs.Fmt.{digit_glyph}
-use Rattle.std.specs.List.{list_all}
 use Rattle.std.proofs.lemmas.Bool.{and_from}
 use Rattle.std.proofs.lemmas.Bool.Decides.{nat_tests}
-use Rattle.std.proofs.lemmas.List.Elements.{All-cons, All-head, All-nil, All-tail}
 use Rattle.std.proofs.lemmas.List.Folds.{list_all-append}
-use Rattle.mr_base.specs.Stops.{plainly}
+use Rattle.mr_base.specs.Stops.{plainly, Stop}
 use Rattle.mr_step.specs.EvalTyped.{meaningless}
-use Rattle.mr_base.specs.Stops.{Stop}
 use Rattle.mr_ast.specs.declared.program.Function.{Function}
 use Rattle.mr_ast.specs.declared.program.Intrinsic.{Intrinsic}
-use Rattle.mr_ast.specs.declared.program.Intrinsic.TheVariants as intrinsic
 use Rattle.mr_ast.specs.declared.types.Num.{Num}
 use Rattle.mr_ast.specs.declared.types.Ty.{Ty, out-Ty}
 use Rattle.mr_ast.specs.declared.types.Ty.TheOpen.{Ty-F}
@@ -22,7 +19,6 @@ use Rattle.mr_base.specs.declared.byte.Pointer.{Pointer}
 use Rattle.mr_base.specs.declared.reason.Reason.TheVariants.{BadAlign, SignatureMismatch, SizeTooLarge}
 use Rattle.mr_sched.specs.declared.schedule.Ask.TheVariants.{Address}
 use Rattle.mr_value.specs.declared.val.Val.{Val, out-Val}
-use Rattle.mr_value.specs.declared.val.Val.TheVariants as val
 use Rattle.mr_value.specs.declared.val.Val.TheOpen.{Val-F}
 use Rattle.mr_value.specs.Discriminants.{number_of_bits}
 use Rattle.mr_value.specs.Numbers.{number_of}
@@ -40,11 +36,12 @@ use Rattle.mr_step.specs.FrameSteps.{frame_plan}
 use Rattle.mr_step.specs.IntrOperations.{Operation, acquire, allocate, allocating, assume, assuming, atomic_load, atomic_store, compare_exchange, create_lock, deallocate, exchanged, fetch, fetched, found, instant, is_power_of_two, join, loaded, modify, number_in, operation, print, release, releasing, truth_in, with_pick}
 use Rattle.mr_step.specs.IntrTexts.{bool_text, number_text, spaced, spaced_behind, text_layer, text_of, texts_of}
 use Rattle.mr_step.proofs.IntrEachOperation.{of_operation}
-use Rattle.mr_step.specs.ThreadSteps.{Own, Turn, TurnPlan, do_step, finished, finishing, frame_step, in_step, last_payload, new_thread, onward, operated, own_step, spawn, spawn_function, spawn_number, spawn_types, start, step_due, thread_types}
-use Rattle.mr_report.specs.Json.{is_printed}
+use Rattle.mr_step.specs.ThreadSteps.{Turn, TurnPlan, do_step, finished, finishing, frame_step, in_step, last_payload, new_thread, onward, operated, own_step, spawn, spawn_function, spawn_number, spawn_types, start, step_due, thread_types}
 use Rattle.mr_report.proofs.PlainLaws.{decimal_passes}
-use Rattle.mr_answer.proofs.Printing.Prints.{Anything, IsPlain, Prints, memory_prints, prints_then, reads_print}
 use Rattle.mr_typing.specs.Types.{integer_in}
+use Rattle.mr_ast.specs.declared.program.Intrinsic.TheVariants as intrinsic
+use Rattle.mr_value.specs.declared.val.Val.TheVariants as val
+use Rattle.mr_answer.proofs.Printing.Prints.{Anything, IsPlain, Prints, memory_prints, prints_then, reads_print}
 
 -- ---- texts
 

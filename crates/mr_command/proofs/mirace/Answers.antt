@@ -1,4 +1,4 @@
-use Rattle.mr_io.specs.Counts.{Rose}
+use Rattle.mr_command.proofs.Common.{Rose}
 use Rattle.mr_command.proofs.HeadlineLaws.{big_soundly, big_unless_faults, big_written}
 use Rattle.mr_command.proofs.MachineLaws.{headline}
 use Rattle.mr_command.proofs.PromiseLaws.{of_runs, of_texts, of_traces}

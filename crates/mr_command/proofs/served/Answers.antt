@@ -1,9 +1,4 @@
-use Rattle.std.proofs.Common.{subst, sym}
-use Rattle.std.specs.Prelude.{Option}
-use Rattle.mr_io.specs.Counts.{Rose}
-use Rattle.mr_command.specs.Command.{Command, NamesProgram}
-use Rattle.mr_command.specs.Outcome.{Ends, EndsOverTexts}
-use Rattle.mr_command.specs.Showing.{Shown}
+use Rattle.mr_command.proofs.Common.{subst, sym, Option, Rose, Command, NamesProgram, Ends, EndsOverTexts, Shown}
 use Rattle.mr_command.proofs.served.Goals as goal
 
 pub returns-in-Some-clause-ends : goal.returns-in-Some-clause-ends

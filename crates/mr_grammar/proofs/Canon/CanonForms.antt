@@ -1,20 +1,6 @@
 -- What a row without a broken limit writes, its canonical words write too: a law for each way to make a form.
-use Rattle.std.proofs.Common.{ℕ, List, [], ◌∷◌, None, suc, ◌++◌, ◌≡◌, refl, ap, ◌==◌, ◌-◌, bytes_eq, true, ◌∙◌, sym, Some, Bool, ◌||◌, false, if◌then◌else◌, inl, inr, subst, codes, map, Option}
-use Rattle.std.specs.List.{AllByRecursion}
-use Rattle.std.specs.Prelude.{flat_map}
-use Rattle.std.proofs.lemmas.List.{append-nil}
-use Rattle.std.proofs.lemmas.Slice.Eq.{bytes_eq-Decides}
-use Rattle.mr_ast.specs.declared.words.Bracket.{Bracket}
-use Rattle.mr_ast.specs.declared.words.Bracket.TheVariants.{Round, Curly, Square}
-use Rattle.mr_ast.specs.CanonTypes.{with_commas}
-use Rattle.mr_ast.specs.Forms.{Mark, SpelledBy, opening, closing, Empty, Then, Word, Cases, Within, EachSpelled, Many, Either, In, Part}
-use Rattle.mr_ast.specs.Scope.{Scope}
-use Rattle.mr_ast.specs.Spelled.{SpelledInside, SpelledPart, form_of}
-use Rattle.mr_ast.specs.Words.{Texts}
-use Rattle.mr_ast.specs.Writing.{word, Writing, Judged, token, giving, fine, limited_word, ◌▸◌, ◌◂◌, ◌▪◌, is_word, optional, listed, separated, Kind, Meaning}
+use Rattle.mr_grammar.proofs.Common.{ℕ, List, [], ◌∷◌, None, suc, ◌++◌, ◌≡◌, refl, ap, ◌==◌, ◌-◌, bytes_eq, true, ◌∙◌, sym, Some, Bool, ◌||◌, false, if◌then◌else◌, inl, inr, subst, codes, map, Option, AllByRecursion, flat_map, append-nil, bytes_eq-Decides, Bracket, Round, Curly, Square, with_commas, Mark, SpelledBy, opening, closing, Empty, Then, Word, Cases, Within, EachSpelled, Many, Either, In, Part, Scope, SpelledInside, SpelledPart, form_of, Texts, word, Writing, Judged, token, giving, fine, limited_word, ◌▸◌, ◌◂◌, ◌▪◌, is_word, optional, listed, separated, Kind, Meaning, numbered, IsFine, words_in}
 use Rattle.mr_ast.proofs.CanonTypeLaws.{flat_map-map}
-use Rattle.mr_words.specs.Places.{numbered}
-use Rattle.mr_grammar.specs.Denotes.{IsFine, words_in}
 use Rattle.mr_grammar.proofs.Shape.ShapedNumbers.{ensures_limited}
 use Rattle.mr_grammar.proofs.Tokens.TokenRows.{fixed_token, is_fixed}
 use Rattle.mr_grammar.proofs.Tokens.TokenTexts.{IsTokenText}

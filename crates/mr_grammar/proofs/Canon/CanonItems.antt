@@ -1,22 +1,9 @@
 -- Items of globals are printed as they are written.
-use Rattle.std.proofs.Common.{◌≡◌, List, ℕ, None, length, [], codes, refl, ◌==◌, inr, ◌∷◌, Bool, if◌then◌else◌, true, false, inl, Some, ap, sym, ◌∙◌, subst}
-use Rattle.std.specs.Prelude.{decimal}
-use Rattle.mr_words.proofs.BaseComparisons.{eq_from}
+use Rattle.mr_grammar.proofs.Common.{◌≡◌, List, ℕ, None, length, [], codes, refl, ◌==◌, inr, ◌∷◌, Bool, if◌then◌else◌, true, false, inl, Some, ap, sym, ◌∙◌, subst, decimal, eq_from, Program, Target, ItemWord, UsesFunction, function_texts, target_text, words_of_item, text_at, Either, Empty, Word, Cases, repeat_form, item_form, reloc_form, judged_item, item_behind, judged_edition, Definitions, names_of, number_of_name, target_of, number_in, item_names, Scope, is_number, looked_up, edition_words, is_word, ◌▸◌, token, judged_repeat, target_use, judged_target, fine, giving, edition_found, scope_at}
+use Rattle.mr_ast.specs.Canon.{repeat_words}
+use Rattle.mr_ast.proofs.WordLaws.{edition_word_found}
 use Rattle.mr_ast.specs.declared.program.Item_.TheVariants as item
-use Rattle.mr_ast.specs.declared.program.Program.{Program}
-use Rattle.mr_ast.specs.declared.program.Target.{Target}
-use Rattle.mr_ast.specs.declared.words.ItemWord.{ItemWord}
 use Rattle.mr_ast.specs.declared.words.ItemWord.TheVariants as item_word
-use Rattle.mr_ast.specs.declared.words.Role.TheVariants.{UsesFunction}
-use Rattle.mr_ast.specs.Canon.{function_texts, target_text, repeat_words, words_of_item}
-use Rattle.mr_ast.specs.CanonValues.{text_at}
-use Rattle.mr_ast.specs.Forms.{Either, Empty, Word, Cases}
-use Rattle.mr_ast.specs.ProgramGrammar.{repeat_form, item_form, reloc_form, judged_item, item_behind, judged_edition}
-use Rattle.mr_ast.specs.Scope.{Definitions, names_of, number_of_name, target_of, number_in, item_names, Scope}
-use Rattle.mr_ast.specs.Words.{is_number, looked_up, edition_words}
-use Rattle.mr_ast.specs.Writing.{is_word, ◌▸◌, token, judged_repeat, target_use, judged_target, fine, giving}
-use Rattle.mr_ast.proofs.WordLaws.{edition_word_found, edition_found}
-use Rattle.mr_words.proofs.ScopeLaws.{scope_at}
 use Rattle.mr_grammar.proofs.Canon.CanonForms.{Canon, canon_before, Stands, stands_also, canon_same, canon_giving, stands_first, canon_word, canon_then, canon_token}
 use Rattle.mr_grammar.proofs.Canon.CanonWords.{canon_repeat, canon_u64}
 use Rattle.mr_grammar.proofs.Shape.ShapedNames.{target_named}

@@ -1,11 +1,7 @@
 -- The names of a program are those of a text that defines them.
-use Rattle.std.specs.Prelude.{map}
-use Rattle.mr_ast.specs.declared.program.Function.{Function}
-use Rattle.mr_ast.specs.declared.program.Program.{Program}
-use Rattle.mr_ast.specs.Canon.{local_texts, block_texts, global_texts}
-use Rattle.mr_ast.specs.CanonValues.{text_at}
-use Rattle.mr_ast.specs.ProgramGrammar.{ProgramBody}
-use Rattle.mr_ast.specs.Scope.{FunctionNames, Definitions}
+use Rattle.mr_grammar.proofs.Common.{map, Function, Program, local_texts, global_texts, text_at, ProgramBody, Definitions}
+use Rattle.mr_ast.specs.Canon.{block_texts}
+use Rattle.mr_ast.specs.Scope.{FunctionNames}
 
 -- the names that a function, and a program, defines
 abbrev pub function_definitions : Program → Function → FunctionNames

@@ -1,28 +1,13 @@
 -- Blocks, functions, globals and programs are printed as they are written, by lines.
-use Rattle.std.proofs.Common.{List, map, ◌++◌, ◌∷◌, [], ◌≡◌, refl, ◌∙◌, ap, codes, ℕ, append_assoc, suc, Bool, true, sym, length, ◌+◌, false}
-use Rattle.std.specs.Prelude.{flat_map, decimal, nat_le}
+use Rattle.mr_grammar.proofs.Common.{List, map, ◌++◌, ◌∷◌, [], ◌≡◌, refl, ◌∙◌, ap, codes, ℕ, append_assoc, suc, Bool, true, sym, length, ◌+◌, false, flat_map, decimal, nat_le, append-nil, Block, Function, Global_, Program, Role, DefinesGlobal, DefinesLocal, DefinesBlock, DefinesFunction, UsesFunction, stmt_line, texts_in, term_line, local_texts, words_of_item, function_texts, lines_of, with_commas, text_at, Then, ProgramBody, judged_edition, globals_form, functions_form, global_form, items_form, local_form, block_form, stmts_form, judged_kind, body_form, args_form, locals_form, blocks_form, function_form, program_form, Definitions, number_in, all_names, number_of_name, defined_in, item_names, function_names, SpelledPart, Texts, kind_words, Writing, token, ◌▪◌, ◌▸◌, function_use, name_form, TheType, scope_at}
 use Rattle.std.proofs.lemmas.Grind.{flat_map-append}
-use Rattle.std.proofs.lemmas.List.{append-nil}
 use Rattle.std.proofs.lemmas.List.Folds.{flat_map-map}
-use Rattle.mr_ast.specs.declared.program.Block.{Block}
 use Rattle.mr_ast.specs.declared.program.FnName.{FnName}
-use Rattle.mr_ast.specs.declared.program.Function.{Function}
-use Rattle.mr_ast.specs.declared.program.Global_.{Global_}
-use Rattle.mr_ast.specs.declared.program.Program.{Program}
-use Rattle.mr_ast.specs.declared.words.Role.{Role}
-use Rattle.mr_ast.specs.declared.words.Role.TheVariants.{DefinesGlobal, DefinesLocal, DefinesBlock, DefinesFunction, UsesFunction}
-use Rattle.mr_ast.specs.Canon.{block_lines, function_lines, block_head, stmt_line, texts_in, term_line, argument_words, local_texts, local_words, head_line, locals_line, words_of_item, global_line, function_texts, canonical_words, lines_of, main_line, kind_word}
-use Rattle.mr_ast.specs.CanonTypes.{with_commas}
-use Rattle.mr_ast.specs.CanonValues.{text_at}
-use Rattle.mr_ast.specs.Forms.{Then}
-use Rattle.mr_ast.specs.ProgramGrammar.{FunctionBody, ProgramBody, judged_edition, globals_form, functions_form, global_form, items_form, local_form, block_form, stmts_form, judged_kind, body_form, args_form, locals_form, blocks_form, function_form, program_form}
-use Rattle.mr_ast.specs.Scope.{Definitions, is_number, number_in, all_names, number_of_name, defined_in, item_names, function_names}
-use Rattle.mr_ast.specs.Spelled.{SpelledPart}
-use Rattle.mr_ast.specs.Words.{Texts, kind_words}
-use Rattle.mr_ast.specs.Writing.{Writing, token, ◌▪◌, ◌▸◌, function_use, name_form, TheType}
+use Rattle.mr_ast.specs.Canon.{block_lines, function_lines, block_head, argument_words, local_words, head_line, locals_line, global_line, canonical_words, main_line, kind_word}
+use Rattle.mr_ast.specs.ProgramGrammar.{FunctionBody}
+use Rattle.mr_ast.specs.Scope.{is_number}
 use Rattle.mr_ast.proofs.WordLaws.{kind_word_found}
 use Rattle.mr_words.proofs.NamingLaws.{item_named, local_named, block_named}
-use Rattle.mr_words.proofs.ScopeLaws.{scope_at}
 use Rattle.mr_words.specs.Naming.{IsAmong}
 use Rattle.mr_grammar.proofs.Canon.CanonForms.{Canon, canon_before, canon_then, canon_pair, canon_within, canon_many, canon_listed, canon_behind, canon_commas, Stands, canon_in, stands_same, canon_giving, stands_then, stands_many, canon_text}
 use Rattle.mr_grammar.proofs.Canon.CanonItems.{KnownProgram, canon_item, canon_edition}

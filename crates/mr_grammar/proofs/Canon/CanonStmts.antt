@@ -1,23 +1,11 @@
 -- Statements and terminators are printed as they are written.
-use Rattle.std.proofs.Common.{ℕ, ◌≡◌, Some, None, refl, [], Bool, ◌∷◌, codes, false, append_assoc, List, true}
-use Rattle.std.specs.Prelude.{nat_le}
+use Rattle.mr_grammar.proofs.Common.{ℕ, ◌≡◌, Some, None, refl, [], Bool, ◌∷◌, codes, false, append_assoc, List, true, nat_le, Round, StmtWord, TermWord, stmt_line, term_line, NameTexts, words_of_value, words_of_place, text_at, Part, Cases, judged_intrinsic, stmt_form, assign_form, numbered_form, judged_stmt, stmt_behind, switch_case_form, intrinsic_form, term_form, judged_term, switch_form, switch_cases_form, unwind_form, call_form, do_form, values_form, term_behind, Definitions, SpelledPart, intrinsic_words, TheValue, ThePlace, block_use, local_use, ◌▸◌, listed, separated, optional, scope_at}
 use Rattle.mr_ast.specs.declared.program.Intrinsic.{Intrinsic}
-use Rattle.mr_ast.specs.declared.program.Intrinsic.TheVariants as intrinsic
-use Rattle.mr_ast.specs.declared.words.Bracket.TheVariants.{Round}
-use Rattle.mr_ast.specs.declared.words.StmtWord.{StmtWord}
-use Rattle.mr_ast.specs.declared.words.StmtWord.TheVariants as stmt_word
-use Rattle.mr_ast.specs.declared.words.TermWord.{TermWord}
-use Rattle.mr_ast.specs.declared.words.TermWord.TheVariants as term_word
-use Rattle.mr_ast.specs.Canon.{intrinsic_word, stmt_line, words_of_stmt, target_words, term_line, words_of_term, arguments, optional_block, optional_result}
-use Rattle.mr_ast.specs.CanonValues.{NameTexts, words_of_value, words_of_place, text_at}
-use Rattle.mr_ast.specs.Forms.{Part, Cases}
-use Rattle.mr_ast.specs.ProgramGrammar.{judged_intrinsic, stmt_form, assign_form, numbered_form, judged_stmt, stmt_behind, switch_case_form, intrinsic_form, term_form, judged_term, switch_form, switch_cases_form, unwind_form, call_form, do_form, values_form, term_behind}
-use Rattle.mr_ast.specs.Scope.{Definitions}
-use Rattle.mr_ast.specs.Spelled.{SpelledPart}
-use Rattle.mr_ast.specs.Words.{intrinsic_words}
-use Rattle.mr_ast.specs.Writing.{TheValue, ThePlace, block_use, local_use, ◌▸◌, listed, separated, optional}
+use Rattle.mr_ast.specs.Canon.{intrinsic_word, words_of_stmt, target_words, words_of_term, arguments, optional_block, optional_result}
 use Rattle.mr_ast.proofs.WordLaws.{intrinsic_word_found}
-use Rattle.mr_words.proofs.ScopeLaws.{scope_at}
+use Rattle.mr_ast.specs.declared.program.Intrinsic.TheVariants as intrinsic
+use Rattle.mr_ast.specs.declared.words.StmtWord.TheVariants as stmt_word
+use Rattle.mr_ast.specs.declared.words.TermWord.TheVariants as term_word
 use Rattle.mr_grammar.proofs.Canon.CanonForms.{Canon, canon_before, canon_behind, canon_either, canon_then, Stands, canon_word, canon_giving, canon_token, canon_listed, canon_optional, canon_within, canon_pair, canon_many, canon_empty}
 use Rattle.mr_grammar.proofs.Canon.CanonValues.{canon_parts}
 use Rattle.mr_grammar.proofs.Canon.CanonWords.{Known, canon_block, canon_local, canon_num}

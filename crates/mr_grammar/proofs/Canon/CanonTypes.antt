@@ -1,25 +1,14 @@
 -- Trees and types are printed as they are written.
-use Rattle.std.proofs.Common.{ℕ, ◌≡◌, Some, ap, Option, None, true, refl, List, length, [], ◌==◌, ◌&&◌, arith, codes, append_assoc, map, Bool, if◌then◌else◌, ◌∷◌, ◌++◌, subst, sym, false, ◌∙◌}
-use Rattle.std.proofs.lemmas.Bool.{and_parts}
-use Rattle.std.proofs.lemmas.Bool.Decides.{nat_tests}
-use Rattle.std.proofs.lemmas.List.{nil_from_length}
+use Rattle.mr_grammar.proofs.Common.{ℕ, ◌≡◌, Some, ap, Option, None, true, refl, List, length, [], ◌==◌, ◌&&◌, arith, codes, append_assoc, map, Bool, if◌then◌else◌, ◌∷◌, ◌++◌, subst, sym, false, ◌∙◌, and_parts, nat_tests, nil_from_length, Curly, TreeWord, TypeWord, int_word, NameTexts, words_of_place, words_of_value, Part, Cases, Scope, type_word_of, shape_form, chunk_form, tag_form, case_form, field_form, variant_form, tags_form, tree_form, judged_tree, branch_form, cases_form, tree_behind, type_form, judged_type, ref_form, tuple_type_form, fields_form, array_form, union_type_form, chunks_form, enum_form, variants_form, type_behind, Texts, looked_up, int_words, Kind, Meaning, TheType, TheTree, ThePlace, TheValue, listed, separated, fine, int_word_found}
 use Rattle.mr_ast.specs.declared.types.IntType.{IntType}
 use Rattle.mr_ast.specs.declared.types.Ty.{Ty}
-use Rattle.mr_ast.specs.declared.types.Ty.TheVariants as ty
-use Rattle.mr_ast.specs.declared.words.Bracket.TheVariants.{Curly}
-use Rattle.mr_ast.specs.declared.words.TreeWord.{TreeWord}
-use Rattle.mr_ast.specs.declared.words.TreeWord.TheVariants as tree_word
-use Rattle.mr_ast.specs.declared.words.TypeWord.{TypeWord}
-use Rattle.mr_ast.specs.declared.words.TypeWord.TheVariants as type_word
-use Rattle.mr_ast.specs.CanonTypes.{words_of_type, words_of_tree, int_word, is_unit, shape_words, chunk_words, tag_words, case_words, field_words, variant_words, braced}
-use Rattle.mr_ast.specs.CanonValues.{NameTexts, words_of_place, words_of_value}
-use Rattle.mr_ast.specs.Forms.{Part, Cases}
-use Rattle.mr_ast.specs.Scope.{Scope}
-use Rattle.mr_ast.specs.TypeGrammar.{type_word_of, shape_form, chunk_form, tag_form, case_form, field_form, variant_form, tags_form, tree_form, judged_tree, branch_form, cases_form, tree_behind, type_form, judged_type, ref_form, tuple_type_form, fields_form, array_form, union_type_form, chunks_form, enum_form, variants_form, Shape, type_behind}
-use Rattle.mr_ast.specs.Words.{Texts, looked_up, type_words, int_words}
-use Rattle.mr_ast.specs.Writing.{Kind, Meaning, TheType, TheTree, ThePlace, TheValue, listed, separated, fine}
+use Rattle.mr_ast.specs.CanonTypes.{words_of_type, words_of_tree, is_unit, shape_words, chunk_words, tag_words, case_words, field_words, variant_words, braced}
+use Rattle.mr_ast.specs.TypeGrammar.{Shape}
+use Rattle.mr_ast.specs.Words.{type_words}
 use Rattle.mr_ast.proofs.CanonTypeLaws.{words_known, words_invalid, words_branch, words_int_type, words_bool, words_raw_type, words_fn_ptr, words_tuple_type, words_ref, words_array, words_union_type, words_enum}
-use Rattle.mr_ast.proofs.WordLaws.{int_word_found}
+use Rattle.mr_ast.specs.declared.types.Ty.TheVariants as ty
+use Rattle.mr_ast.specs.declared.words.TreeWord.TheVariants as tree_word
+use Rattle.mr_ast.specs.declared.words.TypeWord.TheVariants as type_word
 use Rattle.mr_grammar.proofs.Canon.CanonForms.{CanonInside, Canon, canon_then, canon_before, canon_behind, canon_pair, canon_listed, Stands, canon_word, canon_giving, canon_empty, canon_within, canon_many, stands_first, stands_empty, stands_then, canon_either, canon_text}
 use Rattle.mr_grammar.proofs.Canon.CanonWords.{canon_u64, canon_int, canon_num}
 use Rattle.mr_grammar.proofs.Tokens.TokenRows.{is_fixed, table_passes, fixed_token}

@@ -1,29 +1,17 @@
 -- Places and values are printed as they are written.
-use Rattle.std.proofs.Common.{ℕ, ◌≡◌, Some, None, refl, codes, ◌∷◌, [], ◌++◌, ◌∙◌, append_assoc, List, sym, ap, Bool, false}
-use Rattle.std.specs.List.{fold}
-use Rattle.std.specs.Prelude.{decimal, flat_map, nat_le}
-use Rattle.std.proofs.lemmas.List.{append-nil}
+use Rattle.mr_grammar.proofs.Common.{ℕ, ◌≡◌, Some, None, refl, codes, ◌∷◌, [], ◌++◌, ◌∙◌, append_assoc, List, sym, ap, Bool, false, fold, decimal, flat_map, nat_le, append-nil, UsesLocal, ValueWord, int_word, num_words, NameTexts, words_of_value, words_of_place, text_at, Cases, Part, Definitions, form_of, SpelledPart, judged_value, Postfix, ByField, ByIndex, ByVariant, with_postfix, postfix_form, place_from, postfixes_form, base_form, deref_form, value_form, global_value_form, tuple_value_form, more_values_form, union_value_form, variant_value_form, addr_of_form, cast_form, transmute_form, binary_form, value_behind, Texts, TheValue, TheType, ThePlace, Kind, TheTree, scope_at}
 use Rattle.mr_ast.specs.declared.expr.BinaryOp.{BinaryOp}
-use Rattle.mr_ast.specs.declared.expr.BinaryOp.TheVariants as binary
 use Rattle.mr_ast.specs.declared.expr.Place.{Place}
 use Rattle.mr_ast.specs.declared.expr.UnaryOp.{UnaryOp}
-use Rattle.mr_ast.specs.declared.expr.UnaryOp.TheVariants as unary
 use Rattle.mr_ast.specs.declared.types.IntType.{IntType}
-use Rattle.mr_ast.specs.declared.types.IntType.TheVariants as int
-use Rattle.mr_ast.specs.declared.words.Role.TheVariants.{UsesLocal}
-use Rattle.mr_ast.specs.declared.words.ValueWord.{ValueWord}
-use Rattle.mr_ast.specs.declared.words.ValueWord.TheVariants as value_word
-use Rattle.mr_ast.specs.CanonTypes.{int_word, num_words}
-use Rattle.mr_ast.specs.CanonValues.{unary_word, binary_word, NameTexts, words_of_value, words_of_place, text_at}
-use Rattle.mr_ast.specs.Forms.{Cases, Part}
-use Rattle.mr_ast.specs.Scope.{Definitions}
-use Rattle.mr_ast.specs.Spelled.{form_of, SpelledPart}
-use Rattle.mr_ast.specs.ValueGrammar.{judged_value, Postfix, ByField, ByIndex, ByVariant, with_postfix, postfix_form, place_from, postfixes_form, base_form, deref_form, value_form, global_value_form, tuple_value_form, more_values_form, union_value_form, variant_value_form, addr_of_form, cast_form, transmute_form, binary_form, value_behind}
-use Rattle.mr_ast.specs.Words.{Texts, unary_words, binary_words}
-use Rattle.mr_ast.specs.Writing.{TheValue, TheType, ThePlace, Kind, TheTree}
+use Rattle.mr_ast.specs.CanonValues.{unary_word, binary_word}
+use Rattle.mr_ast.specs.Words.{unary_words, binary_words}
 use Rattle.mr_ast.proofs.CanonValueLaws.{words_field, words_index, words_variant_place, words_deref, words_local, words_int, words_true, words_false, words_raw, words_fn, words_global, words_tuple, words_union, words_variant, words_load, words_disc, words_addr_of, words_cast, words_transmute, words_unary, words_binary}
 use Rattle.mr_ast.proofs.WordLaws.{unary_word_found, binary_word_found}
-use Rattle.mr_words.proofs.ScopeLaws.{scope_at}
+use Rattle.mr_ast.specs.declared.expr.BinaryOp.TheVariants as binary
+use Rattle.mr_ast.specs.declared.expr.UnaryOp.TheVariants as unary
+use Rattle.mr_ast.specs.declared.types.IntType.TheVariants as int
+use Rattle.mr_ast.specs.declared.words.ValueWord.TheVariants as value_word
 use Rattle.mr_grammar.proofs.Canon.CanonForms.{Canon, canon_either, canon_giving, canon_within, canon_then, canon_limited, canon_pair, canon_behind, canon_many, Stands, canon_word, canon_empty, canon_before, canon_part}
 use Rattle.mr_grammar.proofs.Canon.CanonTypes.{Inner, int_fixed, words_as, canon_type, canon_tree}
 use Rattle.mr_grammar.proofs.Canon.CanonWords.{Known, canon_u64, canon_num, canon_name, canon_function, canon_global, canon_int}

@@ -1,16 +1,5 @@
 -- The words of numbers, of tables and of names are printed as they were written.
-use Rattle.std.proofs.Common.{ℕ, List, ◌≡◌, None, Option, [], ◌∷◌, ap, ◌∙◌, Some, not, ◌^◌, codes, refl, if◌then◌else◌, ◌==◌, ◌&&◌, true, Bool, false}
-use Rattle.std.specs.List.{list_all}
-use Rattle.std.specs.Prelude.{decimal, nat_lt, nat_le}
-use Rattle.mr_ast.specs.declared.words.Role.{Role}
-use Rattle.mr_ast.specs.declared.words.Role.TheVariants.{UsesGlobal, UsesFunction, UsesLocal, UsesBlock}
-use Rattle.mr_ast.specs.CanonTypes.{num_words, int_word}
-use Rattle.mr_ast.specs.CanonValues.{NameTexts, text_at}
-use Rattle.mr_ast.specs.Scope.{Definitions, number_of_name, Scope}
-use Rattle.mr_ast.specs.Words.{Table, looked_up, int_words}
-use Rattle.mr_ast.specs.Writing.{token, judged_number, fine, u64_form, judged_u64, limit, num_form, judged_any, judged_positive, judged_repeat, word, int_form, judged_int, name_form, judged_name, local_use, block_use, function_use, global_use}
-use Rattle.mr_ast.proofs.WordLaws.{int_word_found}
-use Rattle.mr_words.proofs.ScopeLaws.{scope_at}
+use Rattle.mr_grammar.proofs.Common.{ℕ, List, ◌≡◌, None, Option, [], ◌∷◌, ap, ◌∙◌, Some, not, ◌^◌, codes, refl, if◌then◌else◌, ◌==◌, ◌&&◌, true, Bool, false, list_all, decimal, nat_lt, nat_le, Role, UsesGlobal, UsesFunction, UsesLocal, UsesBlock, num_words, int_word, NameTexts, text_at, Definitions, number_of_name, Scope, Table, looked_up, int_words, token, judged_number, fine, u64_form, judged_u64, limit, num_form, judged_any, judged_positive, judged_repeat, word, int_form, judged_int, name_form, judged_name, local_use, block_use, function_use, global_use, int_word_found, scope_at}
 use Rattle.mr_grammar.proofs.Canon.CanonForms.{Canon, canon_same, canon_either, canon_giving, canon_before, canon_token}
 use Rattle.mr_grammar.proofs.Shape.ShapedNames.{name_fine}
 use Rattle.mr_grammar.proofs.Shape.ShapedNumbers.{number_fine}

@@ -1,16 +1,7 @@
 -- The canonical text of a program that some text denotes denotes the same program.
-use Rattle.std.proofs.Common.{List, ◌≡◌, map, refl, length, ◌≤◌, ◌^◌, ◌∙◌, subst, sym, ap, ℕ}
-use Rattle.std.specs.List.{AllByRecursion}
-use Rattle.mr_ast.specs.declared.program.Program.{Program}
-use Rattle.mr_ast.specs.Canon.{canonical_text, lines_of}
-use Rattle.mr_ast.specs.Forms.{Word}
-use Rattle.mr_ast.specs.ProgramGrammar.{ProgramBody, program_form}
-use Rattle.mr_lex.specs.Tokens.{Lexeme}
-use Rattle.mr_words.proofs.PlaceLaws.{StandsIn, words_stand}
-use Rattle.mr_words.specs.Defined.{unknown, knowing}
-use Rattle.mr_words.specs.Places.{words_of, numbered, words_from}
-use Rattle.mr_grammar.specs.Denotes.{Writes, definitions_in, program_of, Denotes}
-use Rattle.mr_grammar.specs.Reading.{read}
+use Rattle.mr_grammar.proofs.Common.{List, ◌≡◌, map, refl, length, ◌≤◌, ◌^◌, ◌∙◌, subst, sym, ap, ℕ, AllByRecursion, Program, lines_of, Word, ProgramBody, program_form, Lexeme, StandsIn, words_stand, unknown, knowing, words_of, numbered, Writes, definitions_in, program_of, Denotes, read}
+use Rattle.mr_ast.specs.Canon.{canonical_text}
+use Rattle.mr_words.specs.Places.{words_from}
 use Rattle.mr_grammar.proofs.Canon.CanonForms.{marked, marked-words, marked-fine}
 use Rattle.mr_grammar.proofs.Canon.CanonPrograms.{canon_program, canonical_words_are}
 use Rattle.mr_grammar.proofs.Names.DefinedTwice.{defined_twice, written_twice}

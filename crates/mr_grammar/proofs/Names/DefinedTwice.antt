@@ -1,22 +1,8 @@
 -- What the words of a program write where the text's names are known, and where each name stands for its place: in both the same things are defined.
-use Rattle.std.proofs.Common.{ℕ, ◌≡◌, None, List, true, false, Some, refl, Bool, ◌∷◌, ◌∙◌, ap, [], sym, suc, subst, ◌+◌, slice_index_or, map, arith, length}
-use Rattle.std.specs.List.{AllByRecursion}
-use Rattle.std.specs.Prelude.{nat_le}
-use Rattle.std.proofs.lemmas.List.{length-map}
-use Rattle.mr_ast.specs.declared.program.Block.{Block}
-use Rattle.mr_ast.specs.declared.program.Function.{Function}
-use Rattle.mr_ast.specs.declared.program.Local.{Local}
-use Rattle.mr_ast.specs.declared.words.Role.{Role}
-use Rattle.mr_ast.specs.declared.words.Role.TheVariants.{DefinesLocal, DefinesBlock, DefinesFunction, DefinesGlobal}
-use Rattle.mr_ast.specs.Forms.{Word, Mark}
-use Rattle.mr_ast.specs.ProgramGrammar.{inside_function, ProgramBody, local_form, locals_form, block_form, blocks_form, global_form, body_form, function_form, program_form, globals_form, functions_form}
-use Rattle.mr_ast.specs.Scope.{Scope, name_number, Definitions, function_names}
-use Rattle.mr_ast.specs.Spelled.{SpelledPart}
-use Rattle.mr_ast.specs.Words.{is_name}
-use Rattle.mr_ast.specs.Writing.{judged_name, name_form}
-use Rattle.mr_words.proofs.ScopeLaws.{named_at}
-use Rattle.mr_words.specs.Defined.{unknown, knowing, function_names_in, text_at}
-use Rattle.mr_grammar.specs.Denotes.{words_in, IsFine, Writes, definitions_in}
+use Rattle.mr_grammar.proofs.Common.{ℕ, ◌≡◌, None, List, true, false, Some, refl, Bool, ◌∷◌, ◌∙◌, ap, [], sym, suc, subst, ◌+◌, map, arith, length, AllByRecursion, nat_le, length-map, Block, Function, Local, Role, DefinesLocal, DefinesBlock, DefinesFunction, DefinesGlobal, Word, Mark, ProgramBody, local_form, locals_form, block_form, blocks_form, global_form, body_form, function_form, program_form, globals_form, functions_form, Scope, name_number, Definitions, function_names, SpelledPart, is_name, judged_name, name_form, named_at, unknown, knowing, function_names_in, words_in, IsFine, Writes, definitions_in}
+use Rattle.std.proofs.Common.{slice_index_or}
+use Rattle.mr_ast.specs.ProgramGrammar.{inside_function}
+use Rattle.mr_words.specs.Defined.{text_at}
 use Rattle.mr_grammar.proofs.Names.TwoScopes.{EachTwo, Renames, AreGood, renames_then, renames_any, renames_many, renames_behind, each_later, renames_within, renames_before, renames_in, each_two, each_length}
 use Rattle.mr_grammar.proofs.Shape.ShapedNames.{name_fine}
 use Rattle.mr_grammar.proofs.Stops.BodyLaws.{writes_body}

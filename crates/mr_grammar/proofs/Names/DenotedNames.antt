@@ -1,26 +1,8 @@
 -- What names stand for in a program that a text denotes: the positions of their texts.
-use Rattle.std.proofs.Common.{List, ℕ, length, ◌+◌, ◌≡◌, Option, None, Some, ap, Bool, if◌then◌else◌, true, false, refl, ◌-◌, ◌≤◌, arith, ◌∙◌, sym, ◌<◌, subst}
-use Rattle.std.specs.Prelude.{nat_lt}
-use Rattle.std.proofs.lemmas.Bool.Decides.{nat_tests}
-use Rattle.std.proofs.lemmas.List.{length-map}
-use Rattle.mr_words.proofs.BaseComparisons.{lt_from}
-use Rattle.mr_ast.specs.declared.program.Block.{Block}
-use Rattle.mr_ast.specs.declared.program.Function.{Function}
-use Rattle.mr_ast.specs.declared.program.Global_.{Global_}
-use Rattle.mr_ast.specs.declared.program.Local.{Local}
-use Rattle.mr_ast.specs.declared.program.Program.{Program}
-use Rattle.mr_ast.specs.declared.program.Target.{Target}
+use Rattle.mr_grammar.proofs.Common.{List, ℕ, length, ◌+◌, ◌≡◌, Option, None, Some, ap, Bool, if◌then◌else◌, true, false, refl, ◌-◌, ◌≤◌, arith, ◌∙◌, sym, ◌<◌, subst, nat_lt, nat_tests, length-map, lt_from, Block, Function, Global_, Local, Program, Target, UsesFunction, global_texts, function_texts, target_text, texts_in, text_at, Word, ProgramBody, Definitions, item_names, function_names, used_in, number_in, number_of_name, target_of, StandsIn, use_function, number_within, use_global, use_local, use_block, definitions_in, program_of}
+use Rattle.mr_ast.specs.Scope.{as_global, as_function}
 use Rattle.mr_ast.specs.declared.program.Target.TheVariants as target
-use Rattle.mr_ast.specs.declared.words.Role.TheVariants.{UsesFunction}
-use Rattle.mr_ast.specs.Canon.{global_texts, function_texts, target_text, texts_in}
-use Rattle.mr_ast.specs.CanonValues.{text_at}
-use Rattle.mr_ast.specs.Forms.{Word}
-use Rattle.mr_ast.specs.ProgramGrammar.{ProgramBody}
-use Rattle.mr_ast.specs.Scope.{Definitions, item_names, function_names, used_in, as_global, as_function, number_in, number_of_name, target_of}
-use Rattle.mr_words.proofs.PlaceLaws.{StandsIn}
-use Rattle.mr_words.proofs.ScopeLaws.{use_function, number_within, use_global, use_local, use_block}
 use Rattle.mr_words.specs.Defined.{knowing, function_names_in, text_at as word_at}
-use Rattle.mr_grammar.specs.Denotes.{definitions_in, program_of}
 use Rattle.mr_grammar.proofs.Canon.CanonItems.{KnownProgram}
 use Rattle.mr_grammar.proofs.Canon.CanonWords.{Known}
 use Rattle.mr_grammar.proofs.Names.DefinedTwice.{counted, Counted, FunctionTwice, ProgramTwice, functions_twice}

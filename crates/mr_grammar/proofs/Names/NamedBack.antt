@@ -1,19 +1,12 @@
 -- A name that a text defines reads back: the program's text of its number is its own, and it is the first of this text in its space.
-use Rattle.std.proofs.Common.{List, ℕ, ◌≡◌, Some, bytes_eq, ◌∙◌, sym, [], Option, true, ap, None, Bool, if◌then◌else◌, refl, false, length, ◌+◌, ◌<◌, map, arith, ◌∷◌, zero, suc}
+use Rattle.mr_grammar.proofs.Common.{List, ℕ, ◌≡◌, Some, bytes_eq, ◌∙◌, sym, [], Option, true, ap, None, Bool, if◌then◌else◌, refl, false, length, ◌+◌, ◌<◌, map, arith, ◌∷◌, zero, suc, bytes_eq-Decides, eq_from, DefinesGlobal, DefinesFunction, DefinesLocal, DefinesBlock, text_at, Word, Definitions, names_of, number_in, all_names, defined_in, item_names, number_of_name, function_names, Texts, StandsIn, scope_at}
 use Rattle.std.specs.List.{position_or_len}
 use Rattle.std.proofs.lemmas.List.Quantifiers.{position-Some}
-use Rattle.std.proofs.lemmas.Slice.Eq.{bytes_eq-Decides}
-use Rattle.mr_words.proofs.BaseComparisons.{eq_from}
-use Rattle.mr_ast.specs.declared.words.Role.TheVariants.{DefinesGlobal, DefinesFunction, DefinesLocal, DefinesBlock}
-use Rattle.mr_ast.specs.CanonValues.{text_at}
-use Rattle.mr_ast.specs.Forms.{Word}
-use Rattle.mr_ast.specs.Scope.{Definitions, names_of, number_in, all_names, is_number, defined_in, item_names, number_of_name, function_names, each_once}
-use Rattle.mr_ast.specs.Words.{Texts}
+use Rattle.mr_ast.specs.Scope.{is_number, each_once}
 use Rattle.mr_words.proofs.NamingLaws.{position_from_among, item_named, local_named, block_named}
-use Rattle.mr_words.proofs.PlaceLaws.{StandsIn}
-use Rattle.mr_words.proofs.ScopeLaws.{once-any, scope_at}
-use Rattle.mr_words.specs.Defined.{text_at as word_at}
+use Rattle.mr_words.proofs.ScopeLaws.{once-any}
 use Rattle.mr_words.specs.Naming.{IsAmong}
+use Rattle.mr_words.specs.Defined.{text_at as word_at}
 use Rattle.mr_grammar.proofs.Names.DefinedTwice.{NamedTwice}
 use Rattle.mr_grammar.proofs.Names.TwoScopes.{EachTwo}
 

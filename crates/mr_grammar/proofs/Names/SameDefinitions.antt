@@ -1,22 +1,9 @@
 -- The names that a text defines, read from its words, are those that a program defines which the words write where the names are known.
-use Rattle.std.proofs.Common.{◌≡◌, ℕ, ◌+◌, List, length, map, refl, ap, sym, ◌∙◌}
-use Rattle.mr_ast.specs.declared.program.Block.{Block}
-use Rattle.mr_ast.specs.declared.program.Function.{Function}
-use Rattle.mr_ast.specs.declared.program.Global_.{Global_}
-use Rattle.mr_ast.specs.declared.program.Local.{Local}
-use Rattle.mr_ast.specs.declared.program.Program.{Program}
-use Rattle.mr_ast.specs.Forms.{Word}
-use Rattle.mr_ast.specs.Scope.{Definitions, function_names, item_names, names_of}
-use Rattle.mr_ast.specs.Words.{Texts}
-use Rattle.mr_ast.specs.CanonValues.{text_at}
-use Rattle.mr_ast.specs.ProgramGrammar.{ProgramBody}
+use Rattle.mr_grammar.proofs.Common.{◌≡◌, ℕ, ◌+◌, List, length, map, refl, ap, sym, ◌∙◌, Block, Function, Global_, Local, Program, Word, Definitions, function_names, item_names, names_of, Texts, text_at, ProgramBody, definitions_in, function_names_in, knowing, StandsIn}
 use Rattle.mr_grammar.proofs.Canon.CanonNames.{body_of, definitions_of, function_definitions}
-use Rattle.mr_grammar.specs.Denotes.{definitions_in}
-use Rattle.mr_words.specs.Defined.{function_names_in, knowing}
 use Rattle.mr_words.specs.Defined.{text_at as word_at}
 use Rattle.mr_grammar.proofs.Names.DefinedTwice.{FunctionTwice, ProgramTwice}
 use Rattle.mr_grammar.proofs.Names.NamedBack.{ReadsBack, block_back, function_back, global_back, local_back}
-use Rattle.mr_words.proofs.PlaceLaws.{StandsIn}
 use Rattle.mr_grammar.proofs.Names.TwoScopes.{EachTwo, each_two}
 
 pub each_map : {A B : Type 0} (R : ℕ → A → A → Type 0) (one other : A → B) → ((k : ℕ) (x y : A) → R k x y → other y ≡ one x) → (k : ℕ) (xs ys : List A) → EachTwo R k xs ys

@@ -1,13 +1,6 @@
 -- The same words in two scopes, of which the other knows no names: what a row without a broken limit writes in the one, the same words write in the
 -- other, and both things are related.
-use Rattle.std.proofs.Common.{◌⊎◌, inl, inr, List, ◌≡◌, None, ◌++◌, ℕ, ◌==◌, ◌-◌, [], ◌∷◌, suc, length, refl, ap, ◌∙◌, sym, Bool, true, if◌then◌else◌, ◌||◌, Some, zero, false}
-use Rattle.std.specs.List.{AllByRecursion}
-use Rattle.mr_ast.specs.declared.words.Bracket.{Bracket}
-use Rattle.mr_ast.specs.Forms.{Word, Mark, SpelledBy, EachSpelled, Spelling, Empty, Then, Either, Many, In, Within, Part, Cases}
-use Rattle.mr_ast.specs.Scope.{Scope}
-use Rattle.mr_ast.specs.Spelled.{SpelledInside, SpelledPart, form_of}
-use Rattle.mr_ast.specs.Writing.{Writing, fine, Kind, Meaning, ◌▸◌, ◌◂◌}
-use Rattle.mr_grammar.specs.Denotes.{words_in, IsFine}
+use Rattle.mr_grammar.proofs.Common.{◌⊎◌, inl, inr, List, ◌≡◌, None, ◌++◌, ℕ, ◌==◌, ◌-◌, [], ◌∷◌, suc, length, refl, ap, ◌∙◌, sym, Bool, true, if◌then◌else◌, ◌||◌, Some, zero, false, AllByRecursion, Bracket, Word, Mark, SpelledBy, EachSpelled, Spelling, Empty, Then, Either, Many, In, Within, Part, Cases, Scope, SpelledInside, SpelledPart, form_of, Writing, fine, Kind, Meaning, ◌▸◌, ◌◂◌, words_in, IsFine}
 use Rattle.mr_grammar.proofs.Walk.EnsureLaws.{Parts, EachFrom, by_height, no_parts}
 use Rattle.mr_grammar.proofs.Walk.Fair.{is_empty, IsUnknown, AreFair}
 use Rattle.mr_grammar.proofs.Walk.FairForms.{forms_fair}

@@ -1,26 +1,10 @@
 -- The statements, terminators and blocks that a row without a broken limit writes are shaped.
-use Rattle.std.proofs.Common.{ℕ, ◌<◌, List, ◌≤◌, ◌+◌, length, [], arith, ◌∷◌, suc, Bool, ◌≡◌, Some, None, false, Option, true, ap, refl, nat_le}
-use Rattle.std.specs.List.{AllByRecursion}
-use Rattle.std.specs.Prelude.{option_map}
+use Rattle.mr_grammar.proofs.Common.{ℕ, ◌<◌, List, ◌≤◌, ◌+◌, length, [], arith, ◌∷◌, suc, Bool, ◌≡◌, Some, None, false, Option, true, ap, refl, nat_le, AllByRecursion, option_map, some_is, Function, Program, Round, DefinesBlock, StmtWord, TermWord, Word, Part, judged_stmt, switch_case_form, stmt_behind, numbered_form, stmt_form, assign_form, values_form, term_behind, switch_form, switch_cases_form, unwind_form, call_form, do_form, term_form, stmts_form, block_form, Definitions, names_of, named_in, ShapedBlock, is_shaped_value, is_shaped_place, SpelledPart, looked_up, stmt_words, limit, TheValue, ThePlace, listed, optional, block_use, scope_at, named_at}
 use Rattle.std.proofs.lemmas.List.Sums.{AllPass-from_list_all}
-use Rattle.mr_words.proofs.BaseOptions.{some_is}
-use Rattle.mr_ast.specs.declared.program.Function.{Function}
-use Rattle.mr_ast.specs.declared.program.Program.{Program}
-use Rattle.mr_ast.specs.declared.words.Bracket.TheVariants.{Round}
-use Rattle.mr_ast.specs.declared.words.Role.TheVariants.{DefinesBlock}
-use Rattle.mr_ast.specs.declared.words.StmtWord.{StmtWord}
+use Rattle.mr_ast.specs.Shaped.{is_shaped_target, is_shaped_stmt, is_optional_block, is_shaped_term, is_optional_place}
+use Rattle.mr_words.proofs.ScopeLaws.{define_block}
 use Rattle.mr_ast.specs.declared.words.StmtWord.TheVariants as stmt_word
-use Rattle.mr_ast.specs.declared.words.TermWord.{TermWord}
 use Rattle.mr_ast.specs.declared.words.TermWord.TheVariants as term_word
-use Rattle.mr_ast.specs.Forms.{Word, Part}
-use Rattle.mr_ast.specs.ProgramGrammar.{judged_stmt, switch_case_form, stmt_behind, numbered_form, stmt_form, assign_form, values_form, term_behind, switch_form, switch_cases_form, unwind_form, call_form, do_form, term_form, stmts_form, block_form}
-use Rattle.mr_ast.specs.Scope.{Definitions, names_of}
-use Rattle.mr_ast.specs.Shaped.{is_shaped_target, is_shaped_stmt, is_optional_block, is_shaped_term, is_optional_place, named_in, ShapedBlock}
-use Rattle.mr_ast.specs.ShapedValues.{is_shaped_value, is_shaped_place}
-use Rattle.mr_ast.specs.Spelled.{SpelledPart}
-use Rattle.mr_ast.specs.Words.{looked_up, stmt_words}
-use Rattle.mr_ast.specs.Writing.{limit, TheValue, ThePlace, listed, optional, block_use}
-use Rattle.mr_words.proofs.ScopeLaws.{scope_at, named_at, define_block}
 use Rattle.mr_grammar.proofs.Shape.ShapedNames.{ensures_block_use, ensures_local_use, below, ensures_name}
 use Rattle.mr_grammar.proofs.Shape.ShapedNumbers.{ensures_num, both, all_pass}
 use Rattle.mr_grammar.proofs.Shape.ShapedValues.{parts_shaped}

@@ -1,19 +1,7 @@
 -- Each program that a text denotes is shaped.
-use Rattle.std.proofs.Common.{List, ℕ, ◌≡◌, [], ◌∷◌, suc, length, ◌∙◌, sym, refl}
-use Rattle.std.specs.List.{AllByRecursion}
-use Rattle.std.proofs.lemmas.List.{length-map}
-use Rattle.std.proofs.lemmas.List.Elements.{All-from_recursion}
-use Rattle.mr_ast.specs.declared.program.Function.{Function}
-use Rattle.mr_ast.specs.declared.program.Program.{Program}
-use Rattle.mr_ast.specs.Forms.{Word}
-use Rattle.mr_ast.specs.ProgramGrammar.{ProgramBody, program_form}
-use Rattle.mr_ast.specs.Scope.{Definitions, function_names}
-use Rattle.mr_ast.specs.Shaped.{ShapedFunction, Shaped}
-use Rattle.mr_ast.specs.Spelled.{SpelledPart}
-use Rattle.mr_words.proofs.PlaceLaws.{StandsIn, words_stand}
-use Rattle.mr_words.specs.Defined.{knowing, function_names_in, unknown, text_at}
-use Rattle.mr_words.specs.Places.{words_of}
-use Rattle.mr_grammar.specs.Denotes.{Writes, definitions_in, program_of, Denotes}
+use Rattle.mr_grammar.proofs.Common.{List, ℕ, ◌≡◌, [], ◌∷◌, suc, length, ◌∙◌, sym, refl, AllByRecursion, length-map, All-from_recursion, Function, Program, Word, ProgramBody, program_form, Definitions, function_names, ShapedFunction, SpelledPart, StandsIn, words_stand, knowing, function_names_in, unknown, words_of, Writes, definitions_in, program_of, Denotes}
+use Rattle.mr_ast.specs.Shaped.{Shaped}
+use Rattle.mr_words.specs.Defined.{text_at}
 use Rattle.mr_grammar.proofs.Names.DefinedTwice.{FunctionTwice, Counted, counted, functions_twice, ProgramTwice, defined_twice}
 use Rattle.mr_grammar.proofs.Names.TwoScopes.{EachTwo, each_length}
 use Rattle.mr_grammar.proofs.Shape.ShapedPrograms.{BodyShaped, ensures_program}

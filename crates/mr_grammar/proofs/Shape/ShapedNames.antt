@@ -1,21 +1,8 @@
 -- The names that a row without a broken limit writes, where the text's definitions are known.
-use Rattle.std.proofs.Common.{ℕ, ◌≡◌, false, ◌<◌, arith, Bool, Some, None, true, refl, Option, if◌then◌else◌, ap, length, ◌+◌, sym, ◌-◌, ◌≤◌, map, ◌∙◌, List}
-use Rattle.std.specs.Prelude.{nat_le, nat_lt}
-use Rattle.std.proofs.lemmas.Bool.Decides.{nat_tests}
-use Rattle.std.proofs.lemmas.List.{length-append, length-map}
-use Rattle.mr_words.proofs.BaseComparisons.{lt_from, lt_test}
-use Rattle.mr_words.proofs.BaseOptions.{some_is}
-use Rattle.mr_ast.specs.declared.program.Target.{Target}
+use Rattle.mr_grammar.proofs.Common.{ℕ, ◌≡◌, false, ◌<◌, arith, Bool, Some, None, true, refl, Option, if◌then◌else◌, ap, length, ◌+◌, sym, ◌-◌, ◌≤◌, map, ◌∙◌, List, nat_le, nat_lt, nat_tests, length-map, lt_from, lt_test, some_is, Target, Role, UsesLocal, UsesBlock, UsesFunction, UsesGlobal, Word, Scope, name_number, name_target, Definitions, target_of, item_names, number_of_name, number_in, is_local, Named, is_name, judged_name, judged_target, name_form, local_use, block_use, function_use, global_use, target_use, named_at, scope_at, use_local, use_block, use_function, use_global, number_within}
+use Rattle.std.proofs.lemmas.List.{length-append}
+use Rattle.mr_ast.specs.Shaped.{is_block}
 use Rattle.mr_ast.specs.declared.program.Target.TheVariants as target
-use Rattle.mr_ast.specs.declared.words.Role.{Role}
-use Rattle.mr_ast.specs.declared.words.Role.TheVariants.{UsesLocal, UsesBlock, UsesFunction, UsesGlobal}
-use Rattle.mr_ast.specs.Forms.{Word}
-use Rattle.mr_ast.specs.Scope.{Scope, name_number, name_target, Definitions, target_of, item_names, number_of_name, number_in}
-use Rattle.mr_ast.specs.Shaped.{is_local, is_block}
-use Rattle.mr_ast.specs.ShapedValues.{Named}
-use Rattle.mr_ast.specs.Words.{is_name}
-use Rattle.mr_ast.specs.Writing.{judged_name, judged_target, name_form, local_use, block_use, function_use, global_use, target_use}
-use Rattle.mr_words.proofs.ScopeLaws.{named_at, scope_at, use_local, use_block, use_function, use_global, number_within}
 use Rattle.mr_grammar.proofs.Walk.EnsureLaws.{Parts, Ensures, ensures_cases, ensures_empty, ensures_giving}
 
 pub below : (m n : ℕ) → nat_le n m ≡ false → m < n

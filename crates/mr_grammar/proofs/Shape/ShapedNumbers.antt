@@ -1,16 +1,6 @@
 -- The numbers that a row without a broken limit writes can be written.
-use Rattle.std.proofs.Common.{Bool, ◌≡◌, true, ◌&&◌, refl, List, [], ◌∷◌, ℕ, Option, Some, if◌then◌else◌, None, false, sym, ap, ◌∙◌, ◌^◌, not, ◌==◌, bytes_eq}
-use Rattle.std.specs.List.{AllByRecursion, list_all}
-use Rattle.std.specs.Prelude.{option_map, nat_lt, nat_le}
-use Rattle.std.proofs.lemmas.Bool.{and_parts}
-use Rattle.mr_words.proofs.BaseComparisons.{lt_from, le_from, not_false}
-use Rattle.mr_words.proofs.BaseOptions.{some_is}
-use Rattle.mr_ast.specs.Forms.{Word}
-use Rattle.mr_ast.specs.Scope.{Scope}
-use Rattle.mr_ast.specs.Shaped.{IsRepeat}
-use Rattle.mr_ast.specs.ShapedTypes.{fits_u64, is_shaped_num}
-use Rattle.mr_ast.specs.Words.{is_number, value_of}
-use Rattle.mr_ast.specs.Writing.{judged_number, u64_form, judged_u64, limit, num_form, judged_any, judged_positive, token, judged_repeat, limited_word}
+use Rattle.mr_grammar.proofs.Common.{Bool, ◌≡◌, true, ◌&&◌, refl, List, [], ◌∷◌, ℕ, Option, Some, if◌then◌else◌, None, false, sym, ap, ◌∙◌, ◌^◌, not, ◌==◌, bytes_eq, AllByRecursion, list_all, option_map, nat_lt, nat_le, and_parts, lt_from, le_from, some_is, Word, Scope, IsRepeat, fits_u64, is_shaped_num, is_number, value_of, judged_number, u64_form, judged_u64, limit, num_form, judged_any, judged_positive, token, judged_repeat, limited_word}
+use Rattle.mr_words.proofs.BaseComparisons.{not_false}
 use Rattle.mr_grammar.proofs.Walk.EnsureLaws.{Parts, Ensures, ensures_token, unbroken, ensures_either, ensures_giving, ensures_behind, ensures_cases, ensures_empty}
 
 -- both tests pass

@@ -1,26 +1,14 @@
 -- The globals and functions that a row without a broken limit writes are shaped, where the program has as many of each as are defined.
-use Rattle.std.proofs.Common.{ℕ, ◌≡◌, Some, None, true, ◌≤◌, nat_le, codes, refl, Bool, if◌then◌else◌, ap, sym, false, All, length, ◌<◌, List, [], ◌∷◌, suc, arith, ◌^◌}
-use Rattle.std.proofs.lemmas.List.Elements.{All-from_recursion, All-cons, All-weaker}
-use Rattle.mr_words.proofs.BaseComparisons.{le_from, lt_from}
-use Rattle.mr_words.proofs.BaseOptions.{some_is}
-use Rattle.mr_ast.specs.declared.program.Block.{Block}
-use Rattle.mr_ast.specs.declared.program.Function.{Function}
-use Rattle.mr_ast.specs.declared.program.Program.{Program}
-use Rattle.mr_ast.specs.declared.program.Target.{Target}
-use Rattle.mr_ast.specs.declared.program.Target.TheVariants as target
-use Rattle.mr_ast.specs.declared.words.ItemWord.{ItemWord}
-use Rattle.mr_ast.specs.declared.words.ItemWord.TheVariants as item_word
-use Rattle.mr_ast.specs.declared.words.Role.TheVariants.{DefinesGlobal, DefinesLocal, DefinesFunction}
-use Rattle.mr_ast.specs.Forms.{Word}
-use Rattle.mr_ast.specs.ProgramGrammar.{judged_item, ProgramBody, repeat_form, item_form, reloc_form, item_behind, global_form, items_form, local_form, locals_form, blocks_form, body_form, with_name, args_form, function_form, judged_edition, program_form, globals_form, functions_form}
-use Rattle.mr_ast.specs.Scope.{Definitions, names_of}
-use Rattle.mr_ast.specs.Shaped.{ShapedGlobal, ShapedFunction, IsRepeat, IsTarget, ShapedItem, ShapedLocal, named_in, ShapedBlock, is_local}
-use Rattle.mr_ast.specs.Spelled.{SpelledPart}
-use Rattle.mr_ast.specs.Words.{is_number, value_of, IsEdition}
-use Rattle.mr_ast.specs.Writing.{is_word, fine, TheType, token}
-use Rattle.mr_ast.proofs.WordLaws.{edition_found}
+use Rattle.mr_grammar.proofs.Common.{ℕ, ◌≡◌, Some, None, true, ◌≤◌, nat_le, codes, refl, Bool, if◌then◌else◌, ap, sym, false, length, ◌<◌, List, [], ◌∷◌, suc, arith, ◌^◌, All-from_recursion, le_from, lt_from, some_is, Block, Function, Program, Target, ItemWord, DefinesGlobal, DefinesLocal, DefinesFunction, Word, judged_item, ProgramBody, repeat_form, item_form, reloc_form, item_behind, global_form, items_form, local_form, locals_form, blocks_form, body_form, args_form, function_form, judged_edition, program_form, globals_form, functions_form, Definitions, names_of, ShapedFunction, IsRepeat, named_in, ShapedBlock, is_local, SpelledPart, is_number, value_of, is_word, fine, TheType, token, edition_found, scope_at, named_at}
+use Rattle.std.proofs.Common.{All}
+use Rattle.std.proofs.lemmas.List.Elements.{All-cons, All-weaker}
+use Rattle.mr_ast.specs.ProgramGrammar.{with_name}
+use Rattle.mr_ast.specs.Shaped.{ShapedGlobal, IsTarget, ShapedItem, ShapedLocal}
+use Rattle.mr_ast.specs.Words.{IsEdition}
 use Rattle.mr_words.proofs.BracketCounts.{counted}
-use Rattle.mr_words.proofs.ScopeLaws.{scope_at, named_at, define_global, define_local, define_function}
+use Rattle.mr_words.proofs.ScopeLaws.{define_global, define_local, define_function}
+use Rattle.mr_ast.specs.declared.program.Target.TheVariants as target
+use Rattle.mr_ast.specs.declared.words.ItemWord.TheVariants as item_word
 use Rattle.mr_grammar.proofs.Names.DefinedTwice.{Counted}
 use Rattle.mr_grammar.proofs.Shape.ShapedBlocks.{each_few, ensures_block}
 use Rattle.mr_grammar.proofs.Shape.ShapedNames.{IsWithin, ensures_target_use, ensures_name, below, ensures_local_use, ensures_function_use}

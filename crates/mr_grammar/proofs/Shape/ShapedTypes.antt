@@ -1,16 +1,9 @@
 -- The trees and types that a row without a broken limit writes are shaped.
-use Rattle.std.proofs.Common.{ℕ, ◌≡◌, true, false, ◌∙◌, []}
-use Rattle.mr_ast.specs.declared.words.TreeWord.{TreeWord}
-use Rattle.mr_ast.specs.declared.words.TreeWord.TheVariants as tree_word
-use Rattle.mr_ast.specs.declared.words.TypeWord.{TypeWord}
-use Rattle.mr_ast.specs.declared.words.TypeWord.TheVariants as type_word
-use Rattle.mr_ast.specs.Forms.{Part}
-use Rattle.mr_ast.specs.Scope.{Scope}
-use Rattle.mr_ast.specs.ShapedTypes.{fits_u64, is_shaped_chunk, is_shaped_tag, is_shaped_type, is_shaped_tree, is_shaped_field, is_shaped_variant, is_shaped_case}
-use Rattle.mr_ast.specs.ShapedValues.{Named, is_shaped_place, is_shaped_value}
-use Rattle.mr_ast.specs.TypeGrammar.{shape_form, chunk_form, tag_form, field_form, variant_form, tags_form, case_form, tree_form, branch_form, cases_form, tree_behind, type_form, ref_form, tuple_type_form, fields_form, array_form, union_type_form, chunks_form, enum_form, variants_form, type_behind}
-use Rattle.mr_ast.specs.Writing.{int_form, Kind, Meaning, TheType, TheTree, ThePlace, TheValue}
+use Rattle.mr_grammar.proofs.Common.{ℕ, ◌≡◌, true, false, ◌∙◌, [], TreeWord, TypeWord, Part, Scope, fits_u64, Named, is_shaped_place, is_shaped_value, shape_form, chunk_form, tag_form, field_form, variant_form, tags_form, case_form, tree_form, branch_form, cases_form, tree_behind, type_form, ref_form, tuple_type_form, fields_form, array_form, union_type_form, chunks_form, enum_form, variants_form, type_behind, int_form, Kind, Meaning, TheType, TheTree, ThePlace, TheValue}
+use Rattle.mr_ast.specs.ShapedTypes.{is_shaped_chunk, is_shaped_tag, is_shaped_type, is_shaped_tree, is_shaped_field, is_shaped_variant, is_shaped_case}
 use Rattle.mr_ast.proofs.ShapedLaws.{shaped_known, shaped_invalid, shaped_branch, shaped_int_type, shaped_bool, shaped_raw_type, shaped_fn_ptr, shaped_tuple_type, shaped_ref, shaped_array, shaped_union_type, shaped_enum}
+use Rattle.mr_ast.specs.declared.words.TreeWord.TheVariants as tree_word
+use Rattle.mr_ast.specs.declared.words.TypeWord.TheVariants as type_word
 use Rattle.mr_grammar.proofs.Shape.ShapedNumbers.{ensures_u64, both, ensures_num, all_pass}
 use Rattle.mr_grammar.proofs.Walk.EnsureLaws.{Parts, Ensures, ensures_token, ensures_then, ensures_behind, ensures_also, ensures_pair, ensures_before, EnsuresInside, ensures_listed, ensures_separated, ensures_cases, ensures_giving, ensures_empty, ensures_within, ensures_all, ensures_either, ensures_word}
 

@@ -1,20 +1,8 @@
 -- The places and values that a row without a broken limit writes are shaped.
-use Rattle.std.proofs.Common.{◌≡◌, true, ◌∙◌, List, [], ◌∷◌, ℕ, nat_le, Bool, false}
-use Rattle.std.specs.List.{AllByRecursion, fold}
-use Rattle.mr_words.proofs.BaseComparisons.{lt_test}
+use Rattle.mr_grammar.proofs.Common.{◌≡◌, true, ◌∙◌, List, [], ◌∷◌, ℕ, nat_le, Bool, false, AllByRecursion, fold, lt_test, UsesLocal, ValueWord, Part, Definitions, fits_u64, is_shaped_num, Named, is_shaped_value, is_shaped_place, form_of, SpelledPart, Postfix, ByField, ByIndex, ByVariant, with_postfix, postfix_form, place_from, postfixes_form, base_form, deref_form, value_form, global_value_form, tuple_value_form, more_values_form, union_value_form, variant_value_form, addr_of_form, cast_form, transmute_form, binary_form, value_behind, TheValue, ThePlace, TheType, Kind, TheTree, scope_at, named_at, use_local}
 use Rattle.mr_ast.specs.declared.expr.Place.{Place}
-use Rattle.mr_ast.specs.declared.words.Role.TheVariants.{UsesLocal}
-use Rattle.mr_ast.specs.declared.words.ValueWord.{ValueWord}
-use Rattle.mr_ast.specs.declared.words.ValueWord.TheVariants as value_word
-use Rattle.mr_ast.specs.Forms.{Part}
-use Rattle.mr_ast.specs.Scope.{Definitions}
-use Rattle.mr_ast.specs.ShapedTypes.{fits_u64, is_shaped_num}
-use Rattle.mr_ast.specs.ShapedValues.{Named, is_shaped_value, is_shaped_place}
-use Rattle.mr_ast.specs.Spelled.{form_of, SpelledPart}
-use Rattle.mr_ast.specs.ValueGrammar.{Postfix, ByField, ByIndex, ByVariant, with_postfix, postfix_form, place_from, postfixes_form, base_form, deref_form, value_form, global_value_form, tuple_value_form, more_values_form, union_value_form, variant_value_form, addr_of_form, cast_form, transmute_form, binary_form, value_behind}
-use Rattle.mr_ast.specs.Writing.{TheValue, ThePlace, TheType, Kind, TheTree}
 use Rattle.mr_ast.proofs.ShapedLaws.{shaped_field_place, shaped_index_place, shaped_variant_place, shaped_deref, shaped_local_place, shaped_int, shaped_true, shaped_false, shaped_raw, shaped_fn, shaped_global, shaped_tuple, shaped_union, shaped_variant, shaped_load, shaped_disc, shaped_addr_of, shaped_cast, shaped_transmute, shaped_unary, shaped_binary}
-use Rattle.mr_words.proofs.ScopeLaws.{scope_at, named_at, use_local}
+use Rattle.mr_ast.specs.declared.words.ValueWord.TheVariants as value_word
 use Rattle.mr_grammar.proofs.Shape.ShapedNames.{ensures_name, ensures_function_use, ensures_global_use}
 use Rattle.mr_grammar.proofs.Shape.ShapedNumbers.{both, ensures_limited, ensures_u64, ensures_num, all_pass}
 use Rattle.mr_grammar.proofs.Shape.ShapedTypes.{Inner, ShapedAs, ensures_int, ensures_type, ensures_tree}

@@ -1,19 +1,9 @@
 -- A row without a broken limit writes no more of anything than a text may have, whatever its names stand for.
-use Rattle.std.proofs.Common.{List, length, ◌≤◌, ℕ, Bool, ◌≡◌, false, ◌<◌, suc, arith, [], ◌∷◌}
-use Rattle.std.specs.List.{AllByRecursion}
+use Rattle.mr_grammar.proofs.Common.{List, length, ◌≤◌, ℕ, Bool, ◌≡◌, false, ◌<◌, suc, arith, [], ◌∷◌, AllByRecursion, length-map, All-from_recursion, Function, Role, Word, ProgramBody, local_form, locals_form, block_form, blocks_form, global_form, body_form, function_form, program_form, globals_form, functions_form, Scope, SpelledPart, name_form, function_names_in, Writes, definitions_in}
 use Rattle.std.specs.Str.{IsAscii}
-use Rattle.std.proofs.lemmas.List.{length-map}
-use Rattle.std.proofs.lemmas.List.Elements.{All-map, All-from_recursion}
-use Rattle.mr_ast.specs.declared.program.Function.{Function}
-use Rattle.mr_ast.specs.declared.words.Role.{Role}
-use Rattle.mr_ast.specs.Forms.{Word}
-use Rattle.mr_ast.specs.ProgramGrammar.{ProgramBody, local_form, locals_form, block_form, blocks_form, global_form, body_form, function_form, program_form, globals_form, functions_form}
-use Rattle.mr_ast.specs.Scope.{Scope}
-use Rattle.mr_ast.specs.Spelled.{SpelledPart}
-use Rattle.mr_ast.specs.Writing.{name_form}
-use Rattle.mr_words.specs.Defined.{text_at, function_names_in}
+use Rattle.std.proofs.lemmas.List.Elements.{All-map}
+use Rattle.mr_words.specs.Defined.{text_at}
 use Rattle.mr_words.specs.Naming.{IsSmallFunction, IsSmall}
-use Rattle.mr_grammar.specs.Denotes.{Writes, definitions_in}
 use Rattle.mr_grammar.proofs.Shape.ShapedBlocks.{each_few}
 use Rattle.mr_grammar.proofs.Shape.ShapedNames.{name_fine, below}
 use Rattle.mr_grammar.proofs.Walk.EnsureLaws.{Parts, Ensures, ensures_cases, ensures_empty, ensures_then, ensures_any, ensures_many, ensures_behind, ensures_pair, ensures_within, ensures_before, ensures_in, each_also}

@@ -1,17 +1,11 @@
 -- What is read of a whole row of words: the program that they write, or the first word at which they leave the grammar or break a limit.
-use Rattle.std.proofs.Common.{List, Result, Ok, Err, ◌≡◌, [], ap, sym, ◌∙◌, ℕ, ◌∷◌, Option, Some, ◌++◌, None, ◌≤◌, length, suc, arith, length-append, refl, ◌⊎◌, inl, inr, ◌-◌, Bool, if◌then◌else◌, true, false, ◌==◌, subst, ◌<◌, append_assoc}
+use Rattle.mr_grammar.proofs.Common.{List, Result, Ok, Err, ◌≡◌, [], ap, sym, ◌∙◌, ℕ, ◌∷◌, Option, Some, ◌++◌, None, ◌≤◌, length, suc, arith, length-append, refl, ◌⊎◌, inl, inr, ◌-◌, Bool, if◌then◌else◌, true, false, ◌==◌, subst, ◌<◌, append_assoc, nat_tests, append-nil, nil_from_length, Word, Mark, ProgramBody, program_form, Scope, Stop, words_in, IsFine, Writes, ◌>>=◌, read, stop}
 use Rattle.std.proofs.lemmas.Bool.{cases_order}
-use Rattle.std.proofs.lemmas.Bool.Decides.{nat_tests}
-use Rattle.std.proofs.lemmas.List.{append-nil, nil_from_length, take_at, drop_at}
-use Rattle.mr_ast.specs.Forms.{Word, Mark}
-use Rattle.mr_ast.specs.ProgramGrammar.{ProgramBody, program_form}
-use Rattle.mr_ast.specs.Scope.{Scope}
+use Rattle.std.proofs.lemmas.List.{take_at, drop_at}
 use Rattle.mr_words.specs.Brackets.{told, is_bracket_too_many}
-use Rattle.mr_words.specs.declared.fault.Stop.{Stop}
-use Rattle.mr_grammar.specs.Denotes.{SpelledProgram, words_in, IsFine, Writes}
+use Rattle.mr_grammar.specs.Denotes.{SpelledProgram}
 use Rattle.mr_grammar.specs.Faults.{BreaksLimit, code_of_unexpected, NothingFits, BreaksFirst, GoesOn}
 use Rattle.mr_grammar.specs.Parsing.{ended, body_of}
-use Rattle.mr_grammar.specs.Reading.{◌>>=◌, read, stop}
 use Rattle.mr_grammar.proofs.Stops.FlawLaws.{read_checked, checked-flawed, checked-fine}
 use Rattle.mr_grammar.proofs.Stops.LimitLaws.{Keeps, row_keeps}
 use Rattle.mr_grammar.proofs.Stops.ProgramTold.{told_program}

@@ -1,13 +1,5 @@
 -- What a row of marks writes in a form of the language is read: the thing, or the first limit that the row breaks.
-use Rattle.std.proofs.Common.{◌≡◌, false, refl, ℕ, List, ◌==◌, ◌-◌, [], ◌∷◌, Ok, Some, ◌++◌, zero, suc, ◌∙◌}
-use Rattle.mr_ast.specs.Forms.{Mark, Part, Word}
-use Rattle.mr_ast.specs.Scope.{Scope}
-use Rattle.mr_ast.specs.Spelled.{form_of, SpelledPart, SpelledInside, NoPart, Spelled}
-use Rattle.mr_ast.specs.TypeGrammar.{type_form, tree_form}
-use Rattle.mr_ast.specs.ValueGrammar.{place_from, postfixes_form, base_form, deref_form, value_form}
-use Rattle.mr_ast.specs.Writing.{Kind, TheType, TheTree, ThePlace, TheValue, Meaning, Writing}
-use Rattle.mr_grammar.specs.Denotes.{IsFine, words_in}
-use Rattle.mr_grammar.specs.Reading.{stop, read_inside, read, read_part, no_part}
+use Rattle.mr_grammar.proofs.Common.{◌≡◌, false, refl, ℕ, List, ◌==◌, ◌-◌, [], ◌∷◌, Ok, Some, ◌++◌, zero, suc, ◌∙◌, Mark, Part, Word, Scope, form_of, SpelledPart, SpelledInside, NoPart, Spelled, type_form, tree_form, place_from, postfixes_form, base_form, deref_form, value_form, Kind, TheType, TheTree, ThePlace, TheValue, Meaning, Writing, IsFine, words_in, stop, read_inside, read, read_part, no_part}
 use Rattle.mr_grammar.proofs.Stops.PartLaws.{part_begins, IsTold, part_stops}
 use Rattle.mr_grammar.proofs.Stops.Predictive.{told_part, ended_part}
 use Rattle.mr_grammar.proofs.Walk.BeginLaws.{Opens, spelled_opens}

@@ -1,10 +1,5 @@
 -- No mark of a row has the code 4: that is the code of a word that cannot stand where it stands.
-use Rattle.std.proofs.Common.{List, ◌≡◌, Some, ◌++◌, ℕ, [], ◌∷◌, suc, Bool, true, ◌∙◌, ap, inl, inr, ◌||◌, None, Option, if◌then◌else◌, false, zero, ◌==◌, ◌-◌}
-use Rattle.std.specs.List.{AllByRecursion}
-use Rattle.mr_ast.specs.Forms.{Mark, EachSpelled, Spelling, SpelledBy, Empty, Then, Cases, Either, Many, Within, Part, In}
-use Rattle.mr_ast.specs.Scope.{Scope}
-use Rattle.mr_ast.specs.Spelled.{SpelledInside, SpelledPart, NoPart, form_of, Spelled}
-use Rattle.mr_ast.specs.Writing.{Kind, Meaning, Writing}
+use Rattle.mr_grammar.proofs.Common.{List, ◌≡◌, Some, ◌++◌, ℕ, [], ◌∷◌, suc, Bool, true, ◌∙◌, ap, inl, inr, ◌||◌, None, Option, if◌then◌else◌, false, zero, ◌==◌, ◌-◌, AllByRecursion, Mark, EachSpelled, Spelling, SpelledBy, Empty, Then, Cases, Either, Many, Within, Part, In, Scope, SpelledInside, SpelledPart, NoPart, form_of, Spelled, Kind, Meaning, Writing}
 use Rattle.mr_grammar.proofs.Walk.Fair.{AreFair}
 use Rattle.mr_grammar.proofs.Walk.FairForms.{forms_fair}
 use Rattle.mr_grammar.proofs.Walk.Rows.{all_append}

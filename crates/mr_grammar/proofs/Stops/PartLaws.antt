@@ -1,9 +1,5 @@
 -- With which words the parts of the language begin, and behind which they end.
-use Rattle.std.proofs.Common.{◌≡◌, false, codes}
-use Rattle.mr_ast.specs.Forms.{Word}
-use Rattle.mr_ast.specs.Writing.{Kind, TheType, TheTree, ThePlace, TheValue, Writing, is_word}
-use Rattle.mr_ast.specs.ValueGrammar.{begins_postfix}
-use Rattle.mr_ast.specs.Spelled.{form_of}
+use Rattle.mr_grammar.proofs.Common.{◌≡◌, false, codes, Word, Kind, TheType, TheTree, ThePlace, TheValue, Writing, is_word, begins_postfix, form_of}
 use Rattle.mr_grammar.proofs.Walk.Conditions.{Begins, IsPredictive}
 
 -- a part of a kind begins with the word; no part stands in it but in brackets

@@ -1,22 +1,11 @@
 -- The words that the judges of the language take, and when its pieces can be read a word at a time.
-use Rattle.std.proofs.Common.{Bool, Option, if◌then◌else◌, None, ◌≡◌, Some, true, refl, false, List, ℕ, bytes_eq, ap, not, ◌⊎◌, inl, inr, codes, ◌^◌, ◌||◌}
-use Rattle.std.specs.List.{list_all}
-use Rattle.std.specs.Prelude.{nat_lt, option_map, is_some}
+use Rattle.mr_grammar.proofs.Common.{Bool, Option, if◌then◌else◌, None, ◌≡◌, Some, true, refl, false, List, ℕ, bytes_eq, ap, not, ◌⊎◌, inl, inr, codes, ◌^◌, ◌||◌, list_all, nat_lt, option_map, bytes_eq-Decides, Bracket, Round, Curly, Square, Role, UsesLocal, StmtWord, TermWord, Word, closing, Either, judged_stmt, begins_stmt, judged_term, item_word_of, item_form, judged_item, place_from, base_form, deref_form, value_form, judged_value, Table, looked_up, is_number, is_name, stmt_words, term_words, is_word, word, Writing, ◌▸◌, limited_word, giving, other_than, listed, separated, optional, judged_number, u64_form, judged_u64, limit, token, judged_any, judged_positive, num_form, name_form, judged_name, ThePlace, TheValue}
+use Rattle.std.specs.Prelude.{is_some}
 use Rattle.std.proofs.Math.Bool.{or-true}
 use Rattle.std.proofs.lemmas.Bool.{or_cases}
-use Rattle.std.proofs.lemmas.Slice.Eq.{bytes_eq-Decides}
+use Rattle.mr_ast.specs.ProgramGrammar.{is_stmt_word}
+use Rattle.mr_ast.specs.Writing.{signed}
 use Rattle.mr_ast.specs.declared.expr.Place.TheVariants as place
-use Rattle.mr_ast.specs.declared.words.Bracket.{Bracket}
-use Rattle.mr_ast.specs.declared.words.Bracket.TheVariants.{Round, Curly, Square}
-use Rattle.mr_ast.specs.declared.words.Role.{Role}
-use Rattle.mr_ast.specs.declared.words.Role.TheVariants.{UsesLocal}
-use Rattle.mr_ast.specs.declared.words.StmtWord.{StmtWord}
-use Rattle.mr_ast.specs.declared.words.TermWord.{TermWord}
-use Rattle.mr_ast.specs.Forms.{Word, closing, Either}
-use Rattle.mr_ast.specs.ProgramGrammar.{judged_stmt, is_stmt_word, begins_stmt, judged_term, item_word_of, item_form, judged_item}
-use Rattle.mr_ast.specs.ValueGrammar.{place_from, base_form, deref_form, value_form, judged_value}
-use Rattle.mr_ast.specs.Words.{Table, looked_up, is_number, is_name, stmt_words, term_words}
-use Rattle.mr_ast.specs.Writing.{is_word, word, Writing, ◌▸◌, limited_word, giving, other_than, listed, separated, optional, judged_number, u64_form, judged_u64, limit, signed, token, judged_any, judged_positive, num_form, name_form, judged_name, ThePlace, TheValue}
 use Rattle.mr_grammar.proofs.Shape.ShapedNumbers.{number_read}
 use Rattle.mr_grammar.proofs.Stops.PartLaws.{part_begins, IsTold, part_stops}
 use Rattle.mr_grammar.proofs.Tokens.TokenRows.{table_passes}

@@ -1,22 +1,9 @@
 -- The grammar can be read from left to right, a word at a time: the next word tells each choice.
-use Rattle.std.proofs.Common.{codes, refl, ap, ℕ, ◌≡◌, true, not, false, inl, inr, Bool}
-use Rattle.std.specs.Prelude.{nat_le}
+use Rattle.mr_grammar.proofs.Common.{codes, refl, ap, ℕ, ◌≡◌, true, not, false, inl, inr, Bool, nat_le, Curly, Square, UsesLocal, TreeWord, TypeWord, ValueWord, Part, Word, Empty, Within, Then, Either, Scope, form_of, fields_form, field_form, chunks_form, chunk_form, tags_form, tag_form, variants_form, variant_form, tree_form, branch_form, cases_form, case_form, tree_behind, type_form, ref_form, tuple_type_form, array_form, union_type_form, enum_form, shape_form, type_behind, postfix_form, begins_postfix, ByIndex, ByField, ByVariant, place_from, postfixes_form, base_form, deref_form, value_form, global_value_form, tuple_value_form, more_values_form, union_value_form, variant_value_form, addr_of_form, cast_form, transmute_form, binary_form, value_behind, is_number, is_name, listed, u64_form, ◌◂◌, ◌▪◌, TheType, ◌▸◌, is_word, num_form, TheTree, other_than, giving, word, Meaning, TheValue, limited_word, name_form, Kind, ThePlace}
 use Rattle.mr_ast.specs.declared.expr.Place.TheVariants as place
-use Rattle.mr_ast.specs.declared.words.Bracket.TheVariants.{Curly, Square}
-use Rattle.mr_ast.specs.declared.words.Role.TheVariants.{UsesLocal}
-use Rattle.mr_ast.specs.declared.words.TreeWord.{TreeWord}
 use Rattle.mr_ast.specs.declared.words.TreeWord.TheVariants as tree_word
-use Rattle.mr_ast.specs.declared.words.TypeWord.{TypeWord}
 use Rattle.mr_ast.specs.declared.words.TypeWord.TheVariants as type_word
-use Rattle.mr_ast.specs.declared.words.ValueWord.{ValueWord}
 use Rattle.mr_ast.specs.declared.words.ValueWord.TheVariants as value_word
-use Rattle.mr_ast.specs.Forms.{Part, Word, Empty, Within, Then, Either}
-use Rattle.mr_ast.specs.Scope.{Scope}
-use Rattle.mr_ast.specs.Spelled.{form_of}
-use Rattle.mr_ast.specs.TypeGrammar.{fields_form, field_form, chunks_form, chunk_form, tags_form, tag_form, variants_form, variant_form, tree_form, branch_form, cases_form, case_form, tree_behind, type_form, ref_form, tuple_type_form, array_form, union_type_form, enum_form, shape_form, type_behind}
-use Rattle.mr_ast.specs.ValueGrammar.{postfix_form, begins_postfix, ByIndex, ByField, ByVariant, place_from, postfixes_form, base_form, deref_form, value_form, global_value_form, tuple_value_form, more_values_form, union_value_form, variant_value_form, addr_of_form, cast_form, transmute_form, binary_form, value_behind}
-use Rattle.mr_ast.specs.Words.{is_number, is_name}
-use Rattle.mr_ast.specs.Writing.{listed, u64_form, ◌◂◌, ◌▪◌, TheType, ◌▸◌, is_word, num_form, TheTree, other_than, giving, word, Meaning, TheValue, limited_word, name_form, Kind, ThePlace}
 use Rattle.mr_grammar.proofs.Stops.PartLaws.{IsTold, part_begins, part_stops}
 use Rattle.mr_grammar.proofs.Stops.PieceLaws.{told_list, u64_begins, only_first, told_num, begins_num, told_behind, num_begins, behind_begins, other_word, word_begins, giving_begins, limited_begins, name_begins}
 use Rattle.mr_grammar.proofs.Walk.Conditions.{Begins, Stops}

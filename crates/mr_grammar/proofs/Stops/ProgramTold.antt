@@ -1,18 +1,9 @@
 -- The grammar of programs can be read from left to right, a word at a time.
-use Rattle.std.proofs.Common.{codes, ap, ◌≡◌, false, ℕ, refl, true, inl, inr, not, suc}
-use Rattle.std.specs.Prelude.{nat_le}
+use Rattle.mr_grammar.proofs.Common.{codes, ap, ◌≡◌, false, ℕ, refl, true, inl, inr, not, suc, nat_le, Round, ItemWord, DefinesBlock, UsesLocal, TermWord, Word, Part, numbered_form, stmt_form, assign_form, begins_stmt, values_form, term_behind, unwind_form, switch_form, switch_cases_form, switch_case_form, call_form, do_form, term_form, block_form, stmts_form, blocks_form, local_form, locals_form, args_form, body_form, function_form, item_form, reloc_form, repeat_form, item_behind, global_form, items_form, program_form, globals_form, functions_form, begins_postfix, is_number, is_name, num_form, TheValue, listed, other_than, ◌▸◌, block_use, ThePlace, is_word, optional, ◌▪◌, local_use, name_form, ◌◂◌, token, judged_repeat, function_use}
 use Rattle.mr_ast.specs.declared.program.LocalName.{LocalName}
-use Rattle.mr_ast.specs.declared.words.Bracket.TheVariants.{Round}
-use Rattle.mr_ast.specs.declared.words.ItemWord.{ItemWord}
+use Rattle.mr_ast.specs.ProgramGrammar.{StmtShape, stmt_shape_form, OfLocal, OfPlace, OfNumber, stmt_shape}
 use Rattle.mr_ast.specs.declared.words.ItemWord.TheVariants as item_word
-use Rattle.mr_ast.specs.declared.words.Role.TheVariants.{DefinesBlock, UsesLocal}
-use Rattle.mr_ast.specs.declared.words.TermWord.{TermWord}
 use Rattle.mr_ast.specs.declared.words.TermWord.TheVariants as term_word
-use Rattle.mr_ast.specs.Forms.{Word, Part}
-use Rattle.mr_ast.specs.ProgramGrammar.{StmtShape, stmt_shape_form, numbered_form, OfLocal, OfPlace, OfNumber, stmt_form, assign_form, stmt_shape, begins_stmt, values_form, term_behind, unwind_form, switch_form, switch_cases_form, switch_case_form, call_form, do_form, term_form, block_form, stmts_form, blocks_form, local_form, locals_form, args_form, body_form, function_form, item_form, reloc_form, repeat_form, item_behind, global_form, items_form, program_form, globals_form, functions_form}
-use Rattle.mr_ast.specs.ValueGrammar.{begins_postfix}
-use Rattle.mr_ast.specs.Words.{is_number, is_name}
-use Rattle.mr_ast.specs.Writing.{num_form, TheValue, listed, other_than, ◌▸◌, block_use, ThePlace, is_word, optional, ◌▪◌, local_use, name_form, ◌◂◌, token, judged_repeat, function_use}
 use Rattle.mr_grammar.proofs.Stops.PartLaws.{IsTold, part_stops, part_begins}
 use Rattle.mr_grammar.proofs.Stops.PieceLaws.{told_behind, told_num, behind_begins, stmt_taken, place_no_stmt, place_begins, only_first, word_begins, told_list, value_begins, other_word, begins_num, num_begins, told_optional, optional_begins, term_no_stmt, name_begins, giving_begins, no_item}
 use Rattle.mr_grammar.proofs.Walk.Conditions.{Stops, Begins}

@@ -1,10 +1,5 @@
 -- What reading says of words in the forms of the language.
-use Rattle.std.proofs.Common.{Bool, List, true, ◌≡◌, false, refl, Ok, ◌∷◌, [], ap, ◌++◌, length, arith, ◌||◌, ℕ, ◌==◌, ◌-◌, suc, zero}
-use Rattle.mr_ast.specs.Forms.{Spelling, Mark, Part, SpelledBy, Word, Empty, Then, Cases, Either, Many, Within, In}
-use Rattle.mr_ast.specs.Scope.{Scope}
-use Rattle.mr_ast.specs.Spelled.{SpelledInside, NoPart, form_of}
-use Rattle.mr_ast.specs.Writing.{Kind, Meaning, Writing}
-use Rattle.mr_grammar.specs.Reading.{Reading, Reads, read_by, ◌>>=◌, read_inside, read_part, no_part, read}
+use Rattle.mr_grammar.proofs.Common.{Bool, List, true, ◌≡◌, false, refl, Ok, ◌∷◌, [], ap, ◌++◌, length, arith, ◌||◌, ℕ, ◌==◌, ◌-◌, suc, zero, Spelling, Mark, Part, SpelledBy, Word, Empty, Then, Cases, Either, Many, Within, In, Scope, SpelledInside, NoPart, form_of, Kind, Meaning, Writing, Reading, Reads, read_by, ◌>>=◌, read_inside, read_part, no_part, read}
 use Rattle.mr_grammar.proofs.Stops.FlawLaws.{opens_part}
 use Rattle.mr_grammar.proofs.Stops.PartLaws.{part_begins, IsTold}
 use Rattle.mr_grammar.proofs.Stops.Predictive.{told_part}

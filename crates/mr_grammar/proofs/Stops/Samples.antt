@@ -1,19 +1,12 @@
 -- A form in which each choice has a word has a thing and a row that writes it.
-use Rattle.std.proofs.Common.{ℕ, Bool, List, ◌≡◌, true, ◌==◌, ◌-◌, [], refl, ◌++◌, ◌∷◌, inl, if◌then◌else◌, ◌||◌, Some, None, suc, codes, inr}
+use Rattle.mr_grammar.proofs.Common.{ℕ, Bool, List, ◌≡◌, true, ◌==◌, ◌-◌, [], refl, ◌++◌, ◌∷◌, inl, if◌then◌else◌, ◌||◌, Some, None, suc, codes, inr, UsesLocal, Mark, SpelledBy, Empty, Then, Cases, Either, Many, Within, Word, opening, closing, Part, In, Scope, SpelledInside, type_form, judged_type, tree_form, judged_tree, value_form, judged_value, place_from, postfixes_form, base_form, Kind, Meaning, Writing, TheType, TheTree, ThePlace, TheValue}
 use Rattle.mr_ast.specs.declared.expr.Place.TheVariants as place
 use Rattle.mr_ast.specs.declared.expr.Value.TheVariants as value
 use Rattle.mr_ast.specs.declared.types.Tree.TheVariants as tree
 use Rattle.mr_ast.specs.declared.types.Ty.TheVariants as ty
-use Rattle.mr_ast.specs.declared.words.Role.TheVariants.{UsesLocal}
 use Rattle.mr_ast.specs.declared.words.TreeWord.TheVariants as tree_word
 use Rattle.mr_ast.specs.declared.words.TypeWord.TheVariants as type_word
 use Rattle.mr_ast.specs.declared.words.ValueWord.TheVariants as value_word
-use Rattle.mr_ast.specs.Forms.{Mark, SpelledBy, Empty, Then, Cases, Either, Many, Within, Word, opening, closing, Part, In}
-use Rattle.mr_ast.specs.Scope.{Scope}
-use Rattle.mr_ast.specs.Spelled.{SpelledInside}
-use Rattle.mr_ast.specs.TypeGrammar.{type_form, judged_type, tree_form, judged_tree}
-use Rattle.mr_ast.specs.ValueGrammar.{value_form, judged_value, place_from, postfixes_form, base_form}
-use Rattle.mr_ast.specs.Writing.{Kind, Meaning, Writing, TheType, TheTree, ThePlace, TheValue}
 use Rattle.mr_grammar.proofs.Walk.Fair.{AreFair}
 use Rattle.mr_grammar.proofs.Walk.FairJudges.{spelt, name_fair}
 use Rattle.mr_grammar.proofs.Walk.HeightLaws.{SomePart, SomeInside, settled}

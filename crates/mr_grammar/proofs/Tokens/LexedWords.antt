@@ -1,16 +1,11 @@
 -- A text in which blanks stand between words is read as these words.
-use Rattle.std.proofs.Common.{List, ℕ, ◌≡◌, true, [], ◌∷◌, arith, subst, sym, refl, ◌++◌, ap, inl, inr, append_assoc, ◌∙◌, map, ◌+◌, length, ◌≤◌, ◌^◌}
-use Rattle.std.specs.List.{AllByRecursion, join_with_byte}
-use Rattle.std.specs.Prelude.{flat_map, Ok}
-use Rattle.std.proofs.lemmas.Bool.Decides.{nat_tests}
-use Rattle.std.proofs.lemmas.List.{map-append}
+use Rattle.mr_grammar.proofs.Common.{List, ℕ, ◌≡◌, true, [], ◌∷◌, arith, subst, sym, refl, ◌++◌, ap, inl, inr, append_assoc, ◌∙◌, map, ◌+◌, length, ◌≤◌, ◌^◌, AllByRecursion, flat_map, Ok, nat_tests, map-append, Texts, IsSymbol, Piece, Blank, Number, Symbol, IsPiece, spelling_of, lexemes_at, lexemes_from, Lexeme}
+use Rattle.std.specs.List.{join_with_byte}
 use Rattle.mr_ast.specs.Canon.{text_of_line, text_of_lines}
-use Rattle.mr_ast.specs.Words.{Texts}
 use Rattle.mr_lex.proofs.ReadingLaws.{lexes_lexed}
 use Rattle.mr_lex.specs.Bytes.{is_blank}
-use Rattle.mr_lex.specs.Pieces.{IsSymbol, Piece, Blank, Comment, Word, Number, Symbol, Splits, IsFine, IsPiece, spelling_of}
+use Rattle.mr_lex.specs.Pieces.{Comment, Word, Splits, IsFine}
 use Rattle.mr_lex.specs.Reading.{lexed}
-use Rattle.mr_lex.specs.Tokens.{lexemes_at, lexemes_from, Lexeme}
 use Rattle.mr_grammar.proofs.Tokens.TokenTexts.{IsTokenText}
 use Rattle.mr_grammar.proofs.Walk.Rows.{all_parts}
 

@@ -1,17 +1,15 @@
 -- Texts that are tokens.
-use Rattle.std.proofs.Common.{ℕ, Bool, List, ◌≡◌, true, ◌&&◌, [], false, ◌∷◌, ◌||◌, inl, refl, inr, not, bytes_eq, ◌==◌, length, ◌^◌, arith, Some, if◌then◌else◌, ap, ◌∙◌}
+use Rattle.mr_grammar.proofs.Common.{ℕ, Bool, List, ◌≡◌, true, ◌&&◌, [], false, ◌∷◌, ◌||◌, inl, refl, inr, not, bytes_eq, ◌==◌, length, ◌^◌, arith, Some, if◌then◌else◌, ap, ◌∙◌, list_all, AllByRecursion, IsTrue, nat_lt, decimal, and_parts, bytes_eq-Decides, is_name, is_number, value_of, Table, looked_up, IsSymbol, IsPiece, Number}
 use Rattle.std.specs.Char.{is_ascii_digit}
-use Rattle.std.specs.List.{list_all, AllByRecursion, list_any}
-use Rattle.std.specs.Prelude.{IsTrue, nat_lt, decimal}
-use Rattle.std.proofs.lemmas.Bool.{and_parts, and_right, and_from}
+use Rattle.std.specs.List.{list_any}
+use Rattle.std.proofs.lemmas.Bool.{and_right, and_from}
 use Rattle.std.proofs.lemmas.List.Elements.{recursion_from_All}
 use Rattle.std.proofs.lemmas.List.Sums.{AllPass-from_list_all}
-use Rattle.std.proofs.lemmas.Slice.Eq.{bytes_eq-Decides}
-use Rattle.mr_ast.specs.Words.{is_name, begins_name, is_in_name, reserved, is_number, value_of, Table, looked_up}
+use Rattle.mr_ast.specs.Words.{begins_name, is_in_name, reserved}
 use Rattle.mr_lex.proofs.DecimalLaws.{decimal-number_of}
 use Rattle.mr_lex.proofs.NumberLaws.{is_fine_number-true}
 use Rattle.mr_lex.specs.Bytes.{begins, is_letter, is_word_byte, is_symbol, begins_arrow, ends_arrow, is_digit}
-use Rattle.mr_lex.specs.Pieces.{IsSymbol, IsPiece, Number, IsFine}
+use Rattle.mr_lex.specs.Pieces.{IsFine}
 use Rattle.mr_grammar.proofs.Tokens.TokenTexts.{IsTokenText}
 
 all_pass : (test : ℕ → Bool) (bytes : List ℕ) → list_all test bytes ≡ true → AllByRecursion (λ b. IsTrue (test b)) bytes

@@ -1,7 +1,6 @@
 -- With which words the rows begin that write something in a form.
-use Rattle.std.proofs.Common.{List, [], ◌≡◌, true, ◌∷◌, ◌++◌, refl, inr, inl, ℕ, Bool, ◌⊎◌, suc}
+use Rattle.mr_grammar.proofs.Common.{List, [], ◌≡◌, true, ◌∷◌, ◌++◌, refl, inr, inl, ℕ, Bool, ◌⊎◌, suc, Word, Form, Mark, Then, Either, In, EachSpelled, Many, Spelling, Part, SpelledBy, Empty, Cases, Within}
 use Rattle.std.proofs.Math.Bool.{or-true}
-use Rattle.mr_ast.specs.Forms.{Word, Form, Mark, Then, Either, In, EachSpelled, Many, Spelling, Part, SpelledBy, Empty, Cases, Within}
 use Rattle.mr_grammar.proofs.Walk.Conditions.{is_nullable, Begins}
 
 module _ {S P : Type 0} {M : P → Type 0} (begins : P → Word → Type 0) where

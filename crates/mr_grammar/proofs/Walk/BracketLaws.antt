@@ -1,15 +1,9 @@
 -- A value whose word has brackets behind it.
-use Rattle.std.proofs.Common.{◌≡◌, ℕ, zero, suc, ◌==◌, true, List, Result, Ok, Err, refl}
-use Rattle.mr_ast.specs.declared.words.Bracket.TheVariants.{Round}
-use Rattle.mr_ast.specs.declared.words.ValueWord.{ValueWord}
-use Rattle.mr_ast.specs.declared.words.ValueWord.TheVariants as value_word
-use Rattle.mr_ast.specs.Forms.{Word, closing}
-use Rattle.mr_ast.specs.Scope.{Scope}
-use Rattle.mr_ast.specs.Writing.{Writing, giving, within}
-use Rattle.mr_ast.specs.ValueGrammar.{addr_of_form, binary_form, cast_form, transmute_form, tuple_value_form, union_value_form, value_behind, variant_value_form}
-use Rattle.mr_words.specs.declared.fault.Stop.{Stop}
+use Rattle.mr_grammar.proofs.Common.{◌≡◌, ℕ, zero, suc, ◌==◌, true, List, Result, Ok, Err, refl, Round, ValueWord, Word, closing, Scope, Writing, giving, addr_of_form, binary_form, cast_form, transmute_form, tuple_value_form, union_value_form, value_behind, variant_value_form, Stop, ◌>>=◌, expected, opened, read, read_inside, read_part}
+use Rattle.mr_ast.specs.Writing.{within}
 use Rattle.mr_grammar.specs.Insides.{is_bracketed, value_inside}
-use Rattle.mr_grammar.specs.Reading.{◌>>=◌, expected, opened, read, read_inside, read_outside, read_part}
+use Rattle.mr_grammar.specs.Reading.{read_outside}
+use Rattle.mr_ast.specs.declared.words.ValueWord.TheVariants as value_word
 
 abbrev given : {A : Type 0} → A → List Word → Result (A × List Word) Stop
 given x ws = Ok (x, ws)

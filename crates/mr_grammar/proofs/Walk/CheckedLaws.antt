@@ -1,10 +1,5 @@
 -- What reading gives where a row of marks writes a thing: the thing, or the first limit that the row breaks.
-use Rattle.std.proofs.Common.{List, [], ◌∷◌, Option, ℕ, Result, None, Some, Ok, ◌++◌, ◌≡◌, refl, ap, sym, ◌∙◌}
-use Rattle.std.proofs.lemmas.List.{append-nil}
-use Rattle.mr_ast.specs.Forms.{Word, Mark}
-use Rattle.mr_words.specs.declared.fault.Stop.{Stop}
-use Rattle.mr_grammar.specs.Denotes.{words_in, IsFine}
-use Rattle.mr_grammar.specs.Reading.{stop, Reads, read, ◌>>=◌}
+use Rattle.mr_grammar.proofs.Common.{List, [], ◌∷◌, Option, ℕ, Result, None, Some, Ok, ◌++◌, ◌≡◌, refl, ap, sym, ◌∙◌, append-nil, Word, Mark, Stop, words_in, IsFine, stop, Reads, read, ◌>>=◌}
 use Rattle.mr_grammar.proofs.Walk.Rows.{words-append-rest}
 
 -- the first of the words, if there is one, is such a word

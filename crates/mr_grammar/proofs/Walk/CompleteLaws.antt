@@ -1,10 +1,5 @@
 -- What a row of marks writes in a form is read: the thing, and the rest behind it; or the first limit that the row breaks.
-use Rattle.std.proofs.Common.{List, ℕ, Bool, ◌≡◌, false, [], refl, ◌∷◌, Ok, zero, suc, ◌||◌, true, ◌++◌, length, ◌≤◌, Result, arith, ap, ◌∙◌, length-append, sym, Option, Some, None, inl, inr, if◌then◌else◌}
-use Rattle.std.proofs.lemmas.Slice.Eq.{bytes_eq-Decides}
-use Rattle.mr_ast.specs.Forms.{Word, Form, Mark, Many, EachSpelled, Spelling, Part, SpelledBy, Empty, Then, Cases, Either, Within, closing, opening, In}
-use Rattle.mr_words.specs.declared.fault.Stop.{Stop}
-use Rattle.mr_grammar.specs.Denotes.{words_in, IsFine}
-use Rattle.mr_grammar.specs.Reading.{is_next, Reads, many_at, ◌>>=◌, Reading, read_by, taken, expected, opened}
+use Rattle.mr_grammar.proofs.Common.{List, ℕ, Bool, ◌≡◌, false, [], refl, ◌∷◌, Ok, zero, suc, ◌||◌, true, ◌++◌, length, ◌≤◌, Result, arith, ap, ◌∙◌, length-append, sym, Option, Some, None, inl, inr, if◌then◌else◌, bytes_eq-Decides, Word, Form, Mark, Many, EachSpelled, Spelling, Part, SpelledBy, Empty, Then, Cases, Either, Within, closing, opening, In, Stop, words_in, IsFine, is_next, Reads, many_at, ◌>>=◌, Reading, read_by, taken, expected, opened}
 use Rattle.mr_grammar.proofs.Walk.BeginLaws.{Opens, each_opens, spelled_opens}
 use Rattle.mr_grammar.proofs.Walk.CheckedLaws.{First, IsRead, checked, first-map, checked-then, checked-made, unless_flawed}
 use Rattle.mr_grammar.proofs.Walk.Conditions.{Begins, is_nullable, Stops, IsPredictive}

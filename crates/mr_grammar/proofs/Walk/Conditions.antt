@@ -1,6 +1,5 @@
 -- When a form can be read from left to right, a word at a time.
-use Rattle.std.proofs.Common.{Bool, true, false, ◌&&◌, ◌||◌, ◌⊎◌, Option, ℕ, ◌≡◌, Some}
-use Rattle.mr_ast.specs.Forms.{Form, Empty, Then, Cases, Either, Many, Within, Part, In, Word, opening, closing}
+use Rattle.mr_grammar.proofs.Common.{Bool, true, false, ◌&&◌, ◌||◌, ◌⊎◌, Option, ℕ, ◌≡◌, Some, Form, Empty, Then, Cases, Either, Many, Within, Part, In, Word, opening, closing}
 
 -- a demand where something holds, and one that it holds and more
 abbrev pub When : Bool → Type 0 → Type 0

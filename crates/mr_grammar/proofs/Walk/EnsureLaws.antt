@@ -1,12 +1,5 @@
 -- What is so of each thing that a row without a broken limit writes in a form: a law for each way to make a form.
-use Rattle.std.proofs.Common.{ℕ, Bool, ◌≡◌, None, false, true, refl, List, ◌==◌, ◌-◌, suc, [], ◌∷◌, subst, sym, Some, ◌∙◌, ap, inl, inr, ◌||◌, if◌then◌else◌, ◌++◌, zero, Option}
-use Rattle.std.specs.List.{AllByRecursion}
-use Rattle.mr_ast.specs.declared.words.Bracket.{Bracket}
-use Rattle.mr_ast.specs.Forms.{Mark, SpelledBy, EachSpelled, Empty, Then, Word, Cases, Either, Many, Within, In, Part}
-use Rattle.mr_ast.specs.Scope.{Scope}
-use Rattle.mr_ast.specs.Spelled.{NoPart, SpelledInside, SpelledPart, form_of}
-use Rattle.mr_ast.specs.Writing.{limit, Kind, Meaning, Writing, Judged, word, token, giving, ◌▸◌, ◌◂◌, ◌▪◌, separated, optional, listed}
-use Rattle.mr_grammar.specs.Denotes.{IsFine}
+use Rattle.mr_grammar.proofs.Common.{ℕ, Bool, ◌≡◌, None, false, true, refl, List, ◌==◌, ◌-◌, suc, [], ◌∷◌, subst, sym, Some, ◌∙◌, ap, inl, inr, ◌||◌, if◌then◌else◌, ◌++◌, zero, Option, AllByRecursion, Bracket, Mark, SpelledBy, EachSpelled, Empty, Then, Word, Cases, Either, Many, Within, In, Part, Scope, NoPart, SpelledInside, SpelledPart, form_of, limit, Kind, Meaning, Writing, Judged, word, token, giving, ◌▸◌, ◌◂◌, ◌▪◌, separated, optional, listed, IsFine}
 use Rattle.mr_grammar.proofs.Walk.Rows.{fine_parts}
 
 -- a limit that is not broken

@@ -1,8 +1,5 @@
 -- What is asked of the judges of a form: the words that they take, the limits that they find broken, and what they say where no names are known.
-use Rattle.std.proofs.Common.{◌≡◌, None, Bool, true, false, Option, ℕ, Some, ◌⊎◌}
-use Rattle.mr_ast.specs.Forms.{Empty, Then, Cases, Either, Many, Within, Part, In, Word}
-use Rattle.mr_ast.specs.Scope.{Scope}
-use Rattle.mr_ast.specs.Writing.{Writing, Judged}
+use Rattle.mr_grammar.proofs.Common.{◌≡◌, None, Bool, true, false, Option, ℕ, Some, ◌⊎◌, Empty, Then, Cases, Either, Many, Within, Part, In, Word, Scope, Writing, Judged}
 
 -- a scope in which no definitions are known
 abbrev pub IsUnknown : Scope → Type 0

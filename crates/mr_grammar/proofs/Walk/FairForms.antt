@@ -1,28 +1,15 @@
 -- The judges of each form of the grammar are fair. Outside brackets no form of a kind has a part.
-use Rattle.std.proofs.Common.{Bool, true, codes, refl, None, ℕ, Option, ◌≡◌, Some, ap}
-use Rattle.std.specs.Prelude.{nat_le, option_map}
-use Rattle.mr_words.proofs.BaseOptions.{some_is}
+use Rattle.mr_grammar.proofs.Common.{Bool, true, codes, refl, None, ℕ, Option, ◌≡◌, Some, ap, nat_le, option_map, some_is, ItemWord, DefinesBlock, DefinesFunction, StmtWord, TermWord, TreeWord, TypeWord, ValueWord, stmt_form, judged_stmt, assign_form, numbered_form, stmt_behind, term_form, judged_term, switch_form, switch_cases_form, switch_case_form, unwind_form, call_form, values_form, judged_intrinsic, do_form, intrinsic_form, term_behind, block_form, stmts_form, judged_kind, local_form, body_form, args_form, locals_form, blocks_form, function_form, item_form, judged_item, repeat_form, reloc_form, item_word_of, item_behind, global_form, items_form, program_form, globals_form, functions_form, judged_edition, form_of, shape_form, field_form, variant_form, tags_form, tag_form, tree_form, judged_tree, branch_form, cases_form, case_form, tree_behind, type_form, judged_type, ref_form, tuple_type_form, fields_form, array_form, union_type_form, chunks_form, chunk_form, enum_form, variants_form, type_word_of, type_behind, place_from, postfixes_form, postfix_form, base_form, deref_form, value_form, judged_value, global_value_form, tuple_value_form, more_values_form, union_value_form, variant_value_form, addr_of_form, cast_form, transmute_form, binary_form, value_behind, looked_up, stmt_words, term_words, intrinsic_words, kind_words, is_number, edition_words, Kind, TheType, TheTree, ThePlace, TheValue, limit, Judged}
+use Rattle.mr_ast.specs.ValueGrammar.{value_word_of}
+use Rattle.mr_ast.specs.Words.{tree_words, is_exposed}
 use Rattle.mr_ast.specs.declared.program.BlockKind.TheVariants as kind
 use Rattle.mr_ast.specs.declared.program.Intrinsic.TheVariants as intrinsic
-use Rattle.mr_ast.specs.declared.words.ItemWord.{ItemWord}
 use Rattle.mr_ast.specs.declared.words.ItemWord.TheVariants as item_word
-use Rattle.mr_ast.specs.declared.words.Role.TheVariants.{DefinesBlock, DefinesFunction}
-use Rattle.mr_ast.specs.declared.words.StmtWord.{StmtWord}
 use Rattle.mr_ast.specs.declared.words.StmtWord.TheVariants as stmt_word
-use Rattle.mr_ast.specs.declared.words.TermWord.{TermWord}
 use Rattle.mr_ast.specs.declared.words.TermWord.TheVariants as term_word
-use Rattle.mr_ast.specs.declared.words.TreeWord.{TreeWord}
 use Rattle.mr_ast.specs.declared.words.TreeWord.TheVariants as tree_word
-use Rattle.mr_ast.specs.declared.words.TypeWord.{TypeWord}
 use Rattle.mr_ast.specs.declared.words.TypeWord.TheVariants as type_word
-use Rattle.mr_ast.specs.declared.words.ValueWord.{ValueWord}
 use Rattle.mr_ast.specs.declared.words.ValueWord.TheVariants as value_word
-use Rattle.mr_ast.specs.ProgramGrammar.{stmt_form, judged_stmt, assign_form, numbered_form, stmt_behind, term_form, judged_term, switch_form, switch_cases_form, switch_case_form, unwind_form, call_form, values_form, judged_intrinsic, do_form, intrinsic_form, term_behind, block_form, stmts_form, judged_kind, local_form, body_form, args_form, locals_form, blocks_form, function_form, item_form, judged_item, repeat_form, reloc_form, item_word_of, item_behind, global_form, items_form, program_form, globals_form, functions_form, judged_edition}
-use Rattle.mr_ast.specs.Spelled.{form_of}
-use Rattle.mr_ast.specs.TypeGrammar.{shape_form, field_form, variant_form, tags_form, tag_form, tree_form, judged_tree, branch_form, cases_form, case_form, tree_behind, type_form, judged_type, ref_form, tuple_type_form, fields_form, array_form, union_type_form, chunks_form, chunk_form, enum_form, variants_form, type_word_of, type_behind}
-use Rattle.mr_ast.specs.ValueGrammar.{place_from, postfixes_form, postfix_form, base_form, deref_form, value_form, judged_value, global_value_form, tuple_value_form, more_values_form, union_value_form, variant_value_form, addr_of_form, cast_form, transmute_form, binary_form, value_word_of, value_behind}
-use Rattle.mr_ast.specs.Words.{looked_up, tree_words, is_exposed, stmt_words, term_words, intrinsic_words, kind_words, is_number, edition_words}
-use Rattle.mr_ast.specs.Writing.{Kind, TheType, TheTree, ThePlace, TheValue, limit, Judged}
 use Rattle.mr_grammar.proofs.Walk.Fair.{AreFair}
 use Rattle.mr_grammar.proofs.Walk.FairJudges.{fair_pieces, fair_fine, fair_word, exposed_plain, word_fair, limit_plain, name_fair}
 

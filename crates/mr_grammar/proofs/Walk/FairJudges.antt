@@ -1,18 +1,7 @@
 -- The judges of words, numbers and names are fair.
-use Rattle.std.proofs.Common.{List, ℕ, Bool, Option, ◌≡◌, Some, inl, refl, None, ap, if◌then◌else◌, true, false, bytes_eq, codes, not, ◌^◌, ◌&&◌, ◌==◌, length, inr}
-use Rattle.std.specs.Prelude.{option_map, nat_lt, nat_le}
-use Rattle.std.proofs.lemmas.Slice.Eq.{bytes_eq-Decides}
-use Rattle.mr_words.proofs.BaseOptions.{some_is}
-use Rattle.mr_ast.specs.declared.program.Target.{Target}
+use Rattle.mr_grammar.proofs.Common.{List, ℕ, Bool, Option, ◌≡◌, Some, inl, refl, None, ap, if◌then◌else◌, true, false, bytes_eq, codes, not, ◌^◌, ◌&&◌, ◌==◌, length, inr, option_map, nat_lt, nat_le, bytes_eq-Decides, some_is, Target, Role, DefinesGlobal, DefinesFunction, DefinesLocal, DefinesBlock, Word, used_in, Definitions, number_of_name, name_number, name_target, number_in, item_names, target_of, Scope, is_number, looked_up, int_words, is_name, Judged, fine, limit, word, limited_word, judged_number, token, u64_form, judged_u64, judged_repeat, num_form, judged_positive, judged_any, int_form, judged_int, name_form, judged_name, target_use, judged_target, taken}
 use Rattle.mr_ast.specs.declared.program.Target.TheVariants as target
 use Rattle.mr_ast.specs.declared.types.IntType.TheVariants as int
-use Rattle.mr_ast.specs.declared.words.Role.{Role}
-use Rattle.mr_ast.specs.declared.words.Role.TheVariants.{DefinesGlobal, DefinesFunction, DefinesLocal, DefinesBlock}
-use Rattle.mr_ast.specs.Forms.{Word}
-use Rattle.mr_ast.specs.Scope.{used_in, Definitions, number_of_name, name_number, name_target, number_in, item_names, target_of, Scope}
-use Rattle.mr_ast.specs.Words.{is_number, looked_up, int_words, is_name}
-use Rattle.mr_ast.specs.Writing.{Judged, fine, limit, word, limited_word, judged_number, token, u64_form, judged_u64, judged_repeat, num_form, judged_positive, judged_any, int_form, judged_int, name_form, judged_name, target_use, judged_target}
-use Rattle.mr_grammar.specs.Reading.{taken}
 use Rattle.mr_grammar.proofs.Shape.ShapedNames.{name_fine, target_named}
 use Rattle.mr_grammar.proofs.Shape.ShapedNumbers.{number_read}
 use Rattle.mr_grammar.proofs.Walk.Fair.{IsFair, AreFair}

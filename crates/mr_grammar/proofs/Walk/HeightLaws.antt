@@ -1,9 +1,5 @@
 -- What is written where brackets nest less deep is written so where they may nest deeper.
-use Rattle.std.proofs.Common.{ℕ, zero, suc, ◌+◌, ◌-◌, ◌==◌, ◌≤◌, inl, inr, Bool, List, [], ◌∷◌, arith}
-use Rattle.mr_ast.specs.Forms.{Mark, Form, Empty, Then, Cases, Either, Many, Within, Part, In, Spelling, SpelledBy, EachSpelled}
-use Rattle.mr_ast.specs.Scope.{Scope}
-use Rattle.mr_ast.specs.Writing.{Kind, Meaning, Writing}
-use Rattle.mr_ast.specs.Spelled.{form_of, NoPart, SpelledInside, SpelledPart, Spelled}
+use Rattle.mr_grammar.proofs.Common.{ℕ, zero, suc, ◌+◌, ◌-◌, ◌==◌, ◌≤◌, inl, inr, Bool, List, [], ◌∷◌, arith, Mark, Form, Empty, Then, Cases, Either, Many, Within, Part, In, Spelling, SpelledBy, EachSpelled, Scope, Kind, Meaning, Writing, form_of, NoPart, SpelledInside, SpelledPart, Spelled}
 
 -- things in a row, each of which is written so too
 pub each_also : {A : Type 0} (one other : ℕ → A → List Mark → Type 0) → ((k : ℕ) (x : A) (marks : List Mark) → one k x marks → other k x marks)

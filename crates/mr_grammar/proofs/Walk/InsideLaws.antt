@@ -1,9 +1,5 @@
 -- What stands inside a bracket.
-use Rattle.std.proofs.Common.{◌≡◌, ℕ, zero, suc, ◌-◌, ◌==◌, false, List, refl, arith}
-use Rattle.mr_ast.specs.Forms.{Word}
-use Rattle.mr_ast.specs.Scope.{Scope}
-use Rattle.mr_ast.specs.Writing.{Writing}
-use Rattle.mr_grammar.specs.Reading.{read_inside, read_part, read}
+use Rattle.mr_grammar.proofs.Common.{◌≡◌, ℕ, zero, suc, ◌-◌, ◌==◌, false, List, refl, arith, Word, Scope, Writing, read_inside, read_part, read}
 
 -- it is read with one bracket fewer
 pub inside : (room : ℕ) (scope : Scope) (A : Type 0) (form : Writing A) (ws : List Word) → (room == 0) ≡ false → read_inside room scope A form ws ≡ read (room - 1) scope form ws

@@ -1,9 +1,6 @@
 -- Rows of marks: their words, and that none of them breaks a limit.
-use Rattle.std.proofs.Common.{List, ◌++◌, ◌≡◌, [], ◌∷◌, None}
-use Rattle.std.specs.List.{AllByRecursion}
-use Rattle.std.proofs.lemmas.List.{map-append, append_assoc}
-use Rattle.mr_ast.specs.Forms.{Mark, Word}
-use Rattle.mr_grammar.specs.Denotes.{words_in, IsFine}
+use Rattle.mr_grammar.proofs.Common.{List, ◌++◌, ◌≡◌, [], ◌∷◌, None, AllByRecursion, map-append, Mark, Word, words_in, IsFine}
+use Rattle.std.proofs.lemmas.List.{append_assoc}
 
 -- the words of one row behind another
 pub words-append : (front back : List Mark) → words_in (front ++ back) ≡ words_in front ++ words_in back

@@ -1,14 +1,7 @@
 -- What reading says of words: those before the place where it ends are a row without a broken limit, and it says the same of all words that are
 -- the same up to the next one.
-use Rattle.std.proofs.Common.{◌≡◌, Result, Ok, Err, List, Option, [], None, ◌∷◌, Some, ap, ◌++◌, refl, ℕ, Bool, ◌⊎◌, ◌∙◌, sym, inl, inr, subst, append_assoc, if◌then◌else◌, true, false, bytes_eq, length, ◌<◌, arith, length-append, ◌≤◌, zero, suc}
-use Rattle.std.proofs.lemmas.List.{append-nil}
-use Rattle.std.proofs.lemmas.Slice.Eq.{bytes_eq-Decides}
-use Rattle.mr_words.proofs.BaseOptions.{some_is}
-use Rattle.mr_ast.specs.declared.words.Bracket.{Bracket}
-use Rattle.mr_ast.specs.Forms.{Mark, Word, opening, closing, EachSpelled}
-use Rattle.mr_words.specs.declared.fault.Stop.{Stop}
-use Rattle.mr_grammar.specs.Denotes.{words_in, IsFine}
-use Rattle.mr_grammar.specs.Reading.{is_next, Reads, stop, first_at, ◌>>=◌, opened, taken, expected, many_at}
+use Rattle.mr_grammar.proofs.Common.{◌≡◌, Result, Ok, Err, List, Option, [], None, ◌∷◌, Some, ap, ◌++◌, refl, ℕ, Bool, ◌⊎◌, ◌∙◌, sym, inl, inr, subst, append_assoc, if◌then◌else◌, true, false, bytes_eq, length, ◌<◌, arith, length-append, ◌≤◌, zero, suc, append-nil, bytes_eq-Decides, some_is, Bracket, Mark, Word, opening, closing, EachSpelled, Stop, words_in, IsFine, is_next, Reads, stop, ◌>>=◌, opened, taken, expected, many_at}
+use Rattle.mr_grammar.specs.Reading.{first_at}
 use Rattle.mr_grammar.proofs.Walk.EnsureLaws.{unbroken}
 use Rattle.mr_grammar.proofs.Walk.FairJudges.{spelt, taken_here}
 use Rattle.mr_grammar.proofs.Walk.Rows.{words-append-rest, fine-append}

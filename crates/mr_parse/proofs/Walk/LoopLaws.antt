@@ -1,15 +1,12 @@
 -- A row of things that is read from the front on, one in each turn of a loop.
-use Rattle.std.proofs.Common.{◌≡◌, ℕ, zero, suc, ◌+◌, ◌-◌, ◌<◌, ◌≤◌, Bool, true, false, List, [], ◌∷◌, ◌++◌, codes, bytes_eq, if◌then◌else◌, Result, Ok, Err, refl, sym, ap, subst, ◌∙◌, append_assoc, arith}
+use Rattle.mr_parse.proofs.Common.{◌≡◌, ℕ, zero, suc, ◌+◌, ◌-◌, ◌<◌, ◌≤◌, Bool, true, false, List, [], ◌∷◌, codes, Result, Ok, Err, refl, sym, ap, subst, ◌∙◌, arith, Word, Scope, ◌▸◌, is_word, Stop, Fails, Gives, ◌>>=◌, Reads, expected, is_next, many_at, read}
+use Rattle.std.proofs.Common.{◌++◌, bytes_eq, if◌then◌else◌, append_assoc}
 use Rattle.std.proofs.lemmas.List.{append-nil}
-use Rattle.mr_ast.specs.Forms.{Word}
-use Rattle.mr_ast.specs.Scope.{Scope}
-use Rattle.mr_ast.specs.Writing.{Writing, ◌▸◌, is_word}
-use Rattle.mr_words.specs.declared.fault.Stop.{Stop}
+use Rattle.mr_ast.specs.Writing.{Writing}
 use Rattle.mr_words.specs.declared.fault.ReadFault.{ReadFault}
 use Rattle.mr_words.specs.declared.fault.ReadFault.TheVariants.{At, Memory}
-use Rattle.mr_parse.specs.ReaderGives.{Fails, Gives}
 use Rattle.mr_parse.specs.ReaderViews.{Pushes}
-use Rattle.mr_grammar.specs.Reading.{◌>>=◌, Reads, expected, is_next, many_at, read, stop}
+use Rattle.mr_grammar.specs.Reading.{stop}
 
 -- what is read, behind what was read before
 abbrev pub with_front : {A : Type 0} → List A → Result (List A × List Word) Stop → Result (List A × List Word) Stop

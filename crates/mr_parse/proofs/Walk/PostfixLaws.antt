@@ -1,14 +1,9 @@
 -- The postfixes of a place, one in each turn of a loop.
-use Rattle.std.proofs.Common.{◌≡◌, ℕ, zero, suc, ◌+◌, ◌-◌, ◌<◌, ◌≤◌, Bool, true, false, List, [], ◌∷◌, Result, Ok, Err, refl, sym, ap, ◌∙◌, arith}
+use Rattle.mr_parse.proofs.Common.{◌≡◌, ℕ, zero, suc, ◌+◌, ◌-◌, ◌<◌, ◌≤◌, Bool, true, false, List, [], ◌∷◌, Result, Ok, Err, refl, sym, ap, ◌∙◌, arith, Word, Stop, Fails, with_all, ◌>>=◌, Reads, is_next, many_at}
 use Rattle.mr_ast.specs.declared.expr.Place.{Place}
-use Rattle.mr_ast.specs.Forms.{Word}
 use Rattle.mr_ast.specs.ValueGrammar.{Postfix, with_postfix}
-use Rattle.mr_words.specs.declared.fault.Stop.{Stop}
 use Rattle.mr_words.specs.declared.fault.ReadFault.{ReadFault}
 use Rattle.mr_words.specs.declared.fault.ReadFault.TheVariants.{At, Memory}
-use Rattle.mr_parse.specs.ReaderGives.{Fails}
-use Rattle.mr_parse.specs.Postfixes.{with_all}
-use Rattle.mr_grammar.specs.Reading.{◌>>=◌, Reads, is_next, many_at}
 
 with_all-push : (p : Place) (x : Postfix) (read : Result (List Postfix × List Word) Stop) → with_all p (read >>= λ xs. Ok (x ∷ xs.0, xs.1)) ≡ with_all (with_postfix p x) read
 with_all-push p x (Err s) = refl

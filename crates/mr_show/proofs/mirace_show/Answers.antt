@@ -1,8 +1,6 @@
-use Rattle.std.proofs.Common.{arith, inl, inr, subst}
-use Rattle.std.specs.Prelude.{Option, Some}
+use Rattle.mr_show.proofs.Common.{arith, inl, inr, subst, Option, Some, Form, asked, Ends}
 use Rattle.mr_io.specs.Counts.{Rose}
-use Rattle.mr_show.specs.Form.{Form, asked}
-use Rattle.mr_show.specs.Outcome.{Ends, EndsOverTexts}
+use Rattle.mr_show.specs.Outcome.{EndsOverTexts}
 use Rattle.mr_show.specs.Unread.{IsUnreadBecause}
 use Rattle.mr_show.proofs.UnreadLaws.{unread_because}
 use Rattle.mr_show.proofs.mirace_show.Goals as goal

@@ -1,7 +1,6 @@
-use Rattle.std.proofs.Common.{subst, ℕ, List}
+use Rattle.mr_show.proofs.Common.{subst, ℕ, List, asked}
 use Rattle.mr_io.specs.Counts.{Rose}
 use Rattle.mr_input.specs.Writing.{IsWritten}
-use Rattle.mr_show.specs.Form.{asked}
 use Rattle.mr_input.specs.Inputs.{holding}
 use Rattle.mr_show.specs.Outcome.{over_holding}
 use Rattle.mr_show.proofs.EndLaws.{refused_ends, written_ends}

@@ -1,10 +1,5 @@
-use Rattle.std.proofs.Common.{◌≡◌, ◌≤◌, List, length, subst, sym}
-use Rattle.std.specs.Prelude.{IfOk}
+use Rattle.mr_answer.proofs.Common.{◌≡◌, ◌≤◌, List, length, subst, sym, IfOk, Footprint, steps_within, Written, Answer, seen}
 use Rattle.mr_auto.specs.Drawing.{drawn_schedule}
-use Rattle.mr_event.specs.Footprint.{Footprint}
-use Rattle.mr_run.proofs.StepCount.{steps_within}
-use Rattle.mr_input.specs.declared.written.Written.{Written}
-use Rattle.mr_input.specs.Answer.{Answer, seen}
 use Rattle.mr_answer.proofs.PrintedLaws.{printed_by_run}
 use Rattle.mr_answer.proofs.RunLaws.{drawn_is}
 use Rattle.mr_answer.proofs.drawing.drawn.Goals as goal

@@ -1,7 +1,4 @@
-use Rattle.std.proofs.Common.{◌≡◌, subst}
-use Rattle.std.specs.Prelude.{IfOk}
-use Rattle.mr_input.specs.declared.written.Written.{Written}
-use Rattle.mr_input.specs.Answer.{Answer, seen}
+use Rattle.mr_answer.proofs.Common.{◌≡◌, subst, IfOk, Written, Answer, seen}
 use Rattle.mr_answer.proofs.RunLaws.{summary_is}
 use Rattle.mr_answer.proofs.drawing.summary.Goals as goal
 

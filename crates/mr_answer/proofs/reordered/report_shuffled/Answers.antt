@@ -1,5 +1,5 @@
+use Rattle.mr_answer.proofs.Common.{reported}
 use Rattle.mr_answer.specs.declared.formats.Format.TheVariants.{Shuffled}
-use Rattle.mr_answer.specs.Answers.{reported}
 use Rattle.mr_answer.proofs.RunLaws.{refused_read, told_ran, told_refused}
 use Rattle.mr_answer.proofs.reordered.report_shuffled.Goals as goal
 

@@ -1,7 +1,4 @@
-use Rattle.std.proofs.Common.{[], None, subst}
-use Rattle.mr_answer.specs.declared.formats.Format.TheVariants.{Text}
-use Rattle.mr_input.specs.Answer.{Answer, Tells}
-use Rattle.mr_answer.specs.Answers.{behind_schedule, ordered_answer, told_by}
+use Rattle.mr_answer.proofs.Common.{[], None, subst, Text, Answer, Tells, behind_schedule, ordered_answer, told_by}
 use Rattle.mr_answer.proofs.PrintedLaws.{printed_by_run}
 use Rattle.mr_answer.proofs.ReorderedLaws.{again_is}
 use Rattle.mr_answer.proofs.RunLaws.{refused_again, refused_read}

@@ -1,11 +1,6 @@
-use Rattle.std.proofs.Common.{◌≤◌, ◌+◌, ◌∙◌, List, ap, arith, length, subst, sym}
-use Rattle.mr_event.specs.Footprint.{Footprint}
-use Rattle.mr_event.specs.Predicted.{predicted}
-use Rattle.mr_witness.specs.Shuffled.{shuffled}
-use Rattle.mr_run.proofs.StepCount.{steps_within, steps_without_last}
-use Rattle.mr_answer.specs.declared.formats.Format.TheVariants.{Text}
-use Rattle.mr_input.specs.Answer.{Answer, Tells}
-use Rattle.mr_answer.specs.Answers.{Ran, told_in}
+use Rattle.mr_answer.proofs.Common.{◌≤◌, ◌∙◌, List, ap, arith, length, subst, sym, Footprint, predicted, shuffled, steps_within, Text, Answer, Tells, Ran, told_in}
+use Rattle.std.proofs.Common.{◌+◌}
+use Rattle.mr_run.proofs.StepCount.{steps_without_last}
 use Rattle.mr_answer.proofs.PrintedLaws.{printed_by_run}
 use Rattle.mr_answer.proofs.ReorderedLaws.{as_it_ran, in_order, no_races, order_same, shuffled_many, some_races}
 use Rattle.mr_answer.proofs.reordered.shuffled_run.Goals as goal

@@ -1,8 +1,4 @@
-use Rattle.std.proofs.Common.{◌≡◌, subst}
-use Rattle.std.specs.Prelude.{IfOk}
-use Rattle.mr_input.specs.declared.written.Written.{Written}
-use Rattle.mr_input.specs.Answer.{Answer, seen}
-use Rattle.mr_answer.specs.Answers.{behind_schedule}
+use Rattle.mr_answer.proofs.Common.{◌≡◌, subst, IfOk, Written, Answer, seen, behind_schedule}
 use Rattle.mr_answer.proofs.reordered.with_schedule.Goals as goal
 
 pub returns-clause-answer : goal.returns-clause-answer

@@ -1,9 +1,8 @@
-use Rattle.std.proofs.Common.{ap₂, ◌∙◌, sym, [], ◌∷◌, ◌++◌, get_or, subst, ◌<◌}
+use Rattle.mr_answer.proofs.Common.{ap₂, ◌∙◌, sym, [], ◌∷◌, ◌++◌, subst, Printed, line_of}
+use Rattle.std.proofs.Common.{get_or, ◌<◌}
 use Rattle.std.proofs.lemmas.List.{map_more}
 use Rattle.std.proofs.lemmas.Option.{slice_get-get_or}
-use Rattle.mr_step.specs.PlanRuns.{Printed}
 use Rattle.mr_report.specs.declared.report.Line.{Line}
-use Rattle.mr_answer.specs.Report.{line_of}
 use Rattle.mr_answer.proofs.report.lines_of.Goals as goal
 
 -- what stands for a print that isn't there

@@ -1,6 +1,4 @@
-use Rattle.std.proofs.Common.{◌≡◌, take}
-use Rattle.std.specs.Prelude.{map}
-use Rattle.mr_answer.specs.Report.{line_of}
+use Rattle.mr_answer.proofs.Common.{◌≡◌, take, map, line_of}
 use Rattle.mr_answer.proofs.report.lines_of.Given as goal
 
 abbrev pub invariant-loop-i : goal.invariant-loop-i

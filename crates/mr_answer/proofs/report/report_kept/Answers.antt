@@ -1,13 +1,5 @@
-use Rattle.std.proofs.Common.{◌≡◌, ◌≤◌, ◌∙◌, List, Option, ap, ap₂, length, subst, sym}
-use Rattle.std.specs.Prelude.{IfOk}
-use Rattle.mr_event.specs.Footprint.{Footprint}
-use Rattle.mr_event.specs.declared.footprint.Pair.{Pair}
-use Rattle.mr_event.specs.Predicted.{predicted}
-use Rattle.mr_sched.specs.declared.schedule.Schedule.{Schedule}
+use Rattle.mr_answer.proofs.Common.{◌≡◌, ◌≤◌, ◌∙◌, List, Option, ap, ap₂, length, subst, sym, IfOk, Footprint, Pair, predicted, Schedule, Written, Answer, seen, told_by}
 use Rattle.mr_run.specs.Witnesses.{witness_for}
-use Rattle.mr_input.specs.declared.written.Written.{Written}
-use Rattle.mr_input.specs.Answer.{Answer, seen}
-use Rattle.mr_answer.specs.Answers.{told_by}
 use Rattle.mr_answer.proofs.report.report_kept.Goals as goal
 
 pub first_witness-requires-clause-many : goal.first_witness-requires-clause-many

@@ -1,8 +1,5 @@
-use Rattle.std.proofs.Common.{[], None, refl, subst, sym}
-use Rattle.mr_step.specs.StartRuns.{steps_of}
+use Rattle.mr_answer.proofs.Common.{[], None, refl, subst, sym, steps_of, Answer, Tells, told_by, told_in}
 use Rattle.mr_run.proofs.OneThread.{none_shown}
-use Rattle.mr_input.specs.Answer.{Answer, Tells}
-use Rattle.mr_answer.specs.Answers.{told_by, told_in}
 use Rattle.mr_answer.proofs.PrintedLaws.{printed_by_run}
 use Rattle.mr_answer.proofs.RunLaws.{refused_read, told_bare, told_ran, told_refused}
 use Rattle.mr_answer.proofs.run.report_alone.Goals as goal

@@ -1,7 +1,4 @@
-use Rattle.std.proofs.Common.{◌≤◌, List, length, subst, sym}
-use Rattle.mr_event.specs.Footprint.{Footprint}
-use Rattle.mr_run.proofs.StepCount.{steps_within}
-use Rattle.mr_answer.specs.Answers.{told_in}
+use Rattle.mr_answer.proofs.Common.{◌≤◌, List, length, subst, sym, Footprint, steps_within, told_in}
 use Rattle.mr_answer.proofs.PrintedLaws.{printed_by_run}
 use Rattle.mr_answer.proofs.RunLaws.{refused_read, told_ran, told_refused}
 use Rattle.mr_answer.proofs.run.report_plainly.Goals as goal

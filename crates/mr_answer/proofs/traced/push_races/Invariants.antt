@@ -1,4 +1,5 @@
-use Rattle.std.specs.Prelude.{◌≡◌, ◌++◌, flat_map, take}
+use Rattle.mr_answer.proofs.Common.{◌≡◌, ◌++◌, take}
+use Rattle.std.specs.Prelude.{flat_map}
 use Rattle.mr_report.specs.Report.{race_line}
 use Rattle.mr_answer.proofs.traced.push_races.Given as goal
 

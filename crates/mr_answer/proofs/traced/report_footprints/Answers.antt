@@ -1,13 +1,7 @@
-use Rattle.std.proofs.Common.{◌≡◌, ◌≤◌, ◌∙◌, List, arith, length, subst, sym}
-use Rattle.std.specs.Prelude.{IfOk, OnOk}
-use Rattle.mr_event.specs.Footprint.{Footprint}
-use Rattle.mr_step.specs.StartRuns.{steps_of}
+use Rattle.mr_answer.proofs.Common.{◌≡◌, ◌≤◌, ◌∙◌, List, arith, length, subst, sym, IfOk, OnOk, Footprint, steps_of, steps_within, Written, reported, seen}
 use Rattle.mr_trace.specs.Spelling.{IsRun}
-use Rattle.mr_run.proofs.StepCount.{steps_within}
-use Rattle.mr_input.specs.declared.written.Written.{Written}
 use Rattle.mr_answer.specs.declared.formats.Format.TheVariants.{Footprints}
-use Rattle.mr_answer.specs.Answers.{reported, traced}
-use Rattle.mr_input.specs.Answer.{seen}
+use Rattle.mr_answer.specs.Answers.{traced}
 use Rattle.mr_answer.proofs.RunLaws.{refused_read, told_ran, told_refused}
 use Rattle.mr_answer.proofs.TracedLaws.{on_answered, run_limits}
 use Rattle.mr_answer.proofs.traced.report_footprints.Goals as goal

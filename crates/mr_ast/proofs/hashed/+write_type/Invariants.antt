@@ -1,7 +1,4 @@
-use Rattle.std.proofs.Common.{◌≡◌, take}
-use Rattle.std.specs.Prelude.{fold}
-use Rattle.std.specs.List.{flat_map}
-use Rattle.mr_ast.specs.Hashed.{field_writes, variant_writes}
+use Rattle.mr_ast.proofs.Common.{◌≡◌, take, fold, flat_map, field_writes, variant_writes}
 use Rattle.mr_ast.proofs.hashed.+write_type.Given as goal
 
 abbrev pub invariant-write_fields-loop-field : goal.invariant-write_fields-loop-field

@@ -1,7 +1,4 @@
-use Rattle.std.proofs.Common.{◌≡◌, take}
-use Rattle.std.specs.Prelude.{fold}
-use Rattle.std.specs.List.{flat_map}
-use Rattle.mr_ast.specs.Hashed.{chunk_writes}
+use Rattle.mr_ast.proofs.Common.{◌≡◌, take, fold, flat_map, chunk_writes}
 use Rattle.mr_ast.proofs.hashed.write_chunks.Given as goal
 
 abbrev pub invariant-loop-chunk : goal.invariant-loop-chunk

@@ -1,6 +1,4 @@
-use Rattle.std.proofs.Common.{◌≡◌, take}
-use Rattle.std.specs.Prelude.{fold}
-use Rattle.std.specs.List.{flat_map}
+use Rattle.mr_ast.proofs.Common.{◌≡◌, take, fold, flat_map}
 use Rattle.mr_ast.specs.Hashed.{tag_writes}
 use Rattle.mr_ast.proofs.hashed.write_tags.Given as goal
 

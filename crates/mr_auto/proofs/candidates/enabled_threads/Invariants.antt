@@ -1,9 +1,4 @@
-use Rattle.std.proofs.Common.{◌≡◌}
-use Rattle.std.specs.List.{filter, range_with_len}
-use Rattle.std.specs.Prelude.{Some, slice_get}
-use Rattle.mr_start.specs.SyncTables.{is_enabled}
-use Rattle.mr_run.specs.StepPlanMachine.{State}
-use Rattle.mr_start.specs.Steps.{Own}
+use Rattle.mr_auto.proofs.Common.{◌≡◌, filter, range_with_len, Some, slice_get, is_enabled, State, Own}
 use Rattle.mr_auto.proofs.candidates.enabled_threads.Given as goal
 
 abbrev pub invariant-loop-t : goal.invariant-loop-t

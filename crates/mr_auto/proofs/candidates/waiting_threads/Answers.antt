@@ -1,7 +1,4 @@
-use Rattle.std.proofs.Common.{◌≡◌, ap, arith, length, sym, ◌∙◌}
-use Rattle.std.specs.List.{filter, range_with_len}
-use Rattle.std.specs.Prelude.{slice_get}
-use Rattle.mr_start.specs.SyncTables.{on_lock}
+use Rattle.mr_auto.proofs.Common.{◌≡◌, ap, arith, length, sym, ◌∙◌, filter, range_with_len, slice_get, on_lock}
 use Rattle.mr_auto.proofs.Among.{thread_joins, thread_stays_out}
 use Rattle.mr_auto.proofs.candidates.waiting_threads.Goals as goal
 use Rattle.mr_auto.proofs.candidates.waiting_threads.Goals.{then-waiting+in_ok-push, else-waiting}

@@ -1,12 +1,5 @@
-use Rattle.std.proofs.Common.{◌≡◌, ◌+◌, ◌<◌, ◌^◌, sym, ◌∙◌, subst, Err, Ok}
-use Rattle.mr_run.specs.StepPlanRuns.{feet}
-use Rattle.mr_start.specs.Steps.{thread_step}
-use Rattle.mr_typing.specs.Walk.{WellFormed}
-use Rattle.mr_start.specs.Start.{pieces}
+use Rattle.mr_auto.proofs.Common.{◌≡◌, ◌+◌, ◌<◌, ◌^◌, sym, ◌∙◌, subst, Err, Ok, feet, thread_step, WellFormed, pieces, Standing, AreAddresses, BeginsDrawing, drawn_from_here}
 use Rattle.mr_run.specs.StepAnswers.{StartAnswer, fault_of, standing}
-use Rattle.mr_run.specs.StepStanding.{Standing}
-use Rattle.mr_auto.specs.Answers.{AreAddresses}
-use Rattle.mr_auto.specs.Drawn.{BeginsDrawing, drawn_from_here}
 use Rattle.mr_auto.proofs.Drawings.{are_addresses, begins_drawing, completed_none, drawn_is, drawn_run, drawn_steps, never_refused, picks_of, start_is, start_there}
 use Rattle.mr_auto.proofs.drawing.draw.Goals as goal
 

@@ -1,4 +1,4 @@
-use Rattle.std.proofs.Common.{[], ◌++◌, arith, subst}
+use Rattle.mr_auto.proofs.Common.{[], ◌++◌, arith, subst}
 use Rattle.mr_run.specs.Runs.{foot_by}
 use Rattle.mr_auto.proofs.DrawnSoFar.{none_more, none_next, so_begins, so_ends, so_feet, so_legal, so_more}
 use Rattle.mr_auto.proofs.drawing.draw_entries.Goals as goal

@@ -1,6 +1,4 @@
-use Rattle.std.proofs.Common.{◌++◌, ap, sym, ◌∙◌}
-use Rattle.mr_run.specs.StepPlanMachine.{needs}
-use Rattle.mr_start.specs.Steps.{thread_step}
+use Rattle.mr_auto.proofs.Common.{◌++◌, ap, sym, ◌∙◌, needs, thread_step}
 use Rattle.mr_auto.proofs.Nexts.{entry_found, entry_missing, no_limit}
 use Rattle.mr_auto.proofs.drawing.entry_of.Goals as goal
 

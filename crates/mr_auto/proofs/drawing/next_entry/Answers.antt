@@ -1,11 +1,5 @@
-use Rattle.std.proofs.Common.{◌≡◌, ap, sym, subst, ◌∙◌, true, false, length, Some}
-use Rattle.std.specs.Prelude.{◌==◌, slice_get}
-use Rattle.mr_start.specs.SyncTables.{is_enabled}
-use Rattle.mr_run.specs.StepPlanRuns.{is_running}
+use Rattle.mr_auto.proofs.Common.{◌≡◌, ap, sym, subst, ◌∙◌, true, false, length, Some, ◌==◌, slice_get, is_enabled, is_running, NextAnswer, Chooser, candidate, enabled_in, entry_from}
 use Rattle.mr_run.proofs.StepEntryLaws.{enabled_is}
-use Rattle.mr_auto.specs.Answers.{NextAnswer}
-use Rattle.mr_sched.specs.declared.chooser.Chooser.{Chooser}
-use Rattle.mr_auto.specs.Drawing.{candidate, enabled_in, entry_from}
 use Rattle.mr_auto.proofs.Nexts.{drawn_is, next_by, weaker}
 use Rattle.mr_auto.proofs.Picks.{candidate_passes}
 use Rattle.mr_auto.proofs.drawing.next_entry.Goals as goal

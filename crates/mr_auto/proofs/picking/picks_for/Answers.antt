@@ -1,4 +1,4 @@
-use Rattle.std.proofs.Common.{drop, get_or, subst, ◌+◌}
+use Rattle.mr_auto.proofs.Common.{drop, get_or, subst, ◌+◌}
 use Rattle.mr_sched.specs.declared.schedule.Ask.TheVariants.{Address}
 use Rattle.mr_auto.proofs.PicksLeft.{PickedSo, left_here, picked_more, picked_none}
 use Rattle.mr_auto.proofs.picking.picks_for.Goals as goal

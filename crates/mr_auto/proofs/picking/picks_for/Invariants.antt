@@ -1,7 +1,4 @@
-use Rattle.std.proofs.Common.{◌≡◌, drop}
-use Rattle.std.specs.Prelude.{Some}
-use Rattle.mr_run.specs.StepPlanMachine.{State}
-use Rattle.mr_start.specs.Steps.{Own}
+use Rattle.mr_auto.proofs.Common.{◌≡◌, drop, Some, State, Own}
 use Rattle.mr_auto.proofs.PicksLeft.{PickedSo}
 use Rattle.mr_auto.proofs.picking.picks_for.Given as goal
 

@@ -1,6 +1,4 @@
-use Rattle.std.proofs.Common.{[], ◌∷◌, drop}
-use Rattle.mr_base.specs.declared.thread.Status.TheVariants.{Enabled}
-use Rattle.mr_auto.specs.Answers.{AreAddresses}
+use Rattle.mr_auto.proofs.Common.{[], ◌∷◌, drop, Enabled, AreAddresses}
 use Rattle.mr_auto.proofs.PicksLeft.{PickedSo}
 use Rattle.mr_auto.proofs.picking.start_picks.Given as goal
 

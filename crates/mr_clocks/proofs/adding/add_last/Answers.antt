@@ -1,8 +1,4 @@
-use Rattle.std.proofs.Common.{◌≡◌, List, ℕ, sym, ◌∙◌, ap, subst}
-use Rattle.std.proofs.lemmas.List.{get_or_read}
-use Rattle.mr_event.specs.Order.{step_at}
-use Rattle.mr_clocks.specs.Memos.{memo_at, no_memo}
-use Rattle.mr_clocks.specs.Rows.{AreAllAsked, ArePlaces}
+use Rattle.mr_clocks.proofs.Common.{◌≡◌, List, ℕ, sym, ◌∙◌, ap, subst, get_or_read, step_at, memo_at, no_memo, AreAllAsked, ArePlaces}
 use Rattle.mr_clocks.proofs.MarkLaws.{marked_same}
 use Rattle.mr_clocks.proofs.MemoLaws.{memos_same}
 use Rattle.mr_clocks.proofs.Noting.{rows_grown}

@@ -1,6 +1,4 @@
-use Rattle.std.proofs.Common.{slice_index, refl, sym, ◌∙◌, ap, arith}
-use Rattle.std.specs.Prelude.{None}
-use Rattle.mr_event.specs.Order.{thread_at}
+use Rattle.mr_clocks.proofs.Common.{slice_index, refl, sym, ◌∙◌, ap, arith, None, thread_at}
 use Rattle.mr_clocks.proofs.Kept.{clocks_same, latest_low, latest_more, made_same, rows_same}
 use Rattle.mr_clocks.proofs.Noting.{keys_same}
 use Rattle.mr_clocks.proofs.SkipLaws.{skips_none, skips_same}

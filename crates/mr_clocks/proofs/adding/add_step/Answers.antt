@@ -1,7 +1,4 @@
-use Rattle.std.proofs.Common.{List, sym, subst}
-use Rattle.mr_event.specs.Order.{step_at}
-use Rattle.mr_clocks.specs.declared.rows.Row.{Row}
-use Rattle.mr_clocks.specs.Rows.{AreAllAsked}
+use Rattle.mr_clocks.proofs.Common.{List, sym, subst, step_at, Row, AreAllAsked}
 use Rattle.mr_clocks.proofs.Kept.{clocks_same, rows_same}
 use Rattle.mr_clocks.proofs.adding.add_step.Goals as goal
 

@@ -1,7 +1,4 @@
-use Rattle.std.proofs.Common.{List, slice_index, refl, sym, ◌∙◌, ap, subst, arith}
-use Rattle.mr_event.specs.Order.{step_at, thread_at}
-use Rattle.mr_clocks.specs.declared.rows.Row.{Row}
-use Rattle.mr_clocks.specs.Rows.{AreAllAsked}
+use Rattle.mr_clocks.proofs.Common.{List, slice_index, refl, sym, ◌∙◌, ap, subst, arith, step_at, thread_at, Row, AreAllAsked}
 use Rattle.mr_clocks.proofs.Kept.{clocks_same, latest_low, latest_more, made_same, rows_same}
 use Rattle.mr_clocks.proofs.Noting.{keys_same}
 use Rattle.mr_clocks.proofs.SkipLaws.{skips_same}

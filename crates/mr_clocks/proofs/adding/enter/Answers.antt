@@ -1,5 +1,4 @@
-use Rattle.std.proofs.Common.{ℕ, ◌+◌, List, length, slice_index, ap, subst, arith}
-use Rattle.mr_clocks.specs.Clocks.{IsNumbered}
+use Rattle.mr_clocks.proofs.Common.{ℕ, ◌+◌, List, length, slice_index, ap, subst, arith, IsNumbered}
 use Rattle.mr_clocks.proofs.Kept.{clocks_made}
 use Rattle.mr_clocks.proofs.Parts.{made_some}
 use Rattle.mr_clocks.proofs.SkipLaws.{skips_more}

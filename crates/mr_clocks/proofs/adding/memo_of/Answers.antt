@@ -1,7 +1,5 @@
-use Rattle.std.proofs.Common.{IfOk, subst}
-use Rattle.mr_event.specs.Footprint.{Footprint}
-use Rattle.mr_event.proofs.Read.{step_read}
-use Rattle.mr_clocks.specs.Memos.{IsMemoOf, memo_at}
+use Rattle.mr_clocks.proofs.Common.{subst, Footprint, step_read, IsMemoOf, memo_at}
+use Rattle.std.proofs.Common.{IfOk}
 use Rattle.mr_clocks.proofs.adding.memo_of.Goals as goal
 
 pub returns-clause-memo : goal.returns-clause-memo

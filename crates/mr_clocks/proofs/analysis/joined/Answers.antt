@@ -1,6 +1,4 @@
-use Rattle.std.proofs.Common.{◌<◌, length, slice_index, subst, sym, refl}
-use Rattle.mr_event.specs.Order.{thread_at}
-use Rattle.mr_clocks.specs.Clocks.{Follows, IsClockOf}
+use Rattle.mr_clocks.proofs.Common.{◌<◌, length, slice_index, subst, sym, refl, thread_at, Follows, IsClockOf}
 use Rattle.mr_clocks.proofs.Wholes.{join_more}
 use Rattle.mr_clocks.proofs.analysis.joined.Goals as goal
 

@@ -1,6 +1,4 @@
-use Rattle.std.proofs.Common.{ℕ, ◌↔◌}
-use Rattle.mr_clocks.specs.Clocks.{IsUnder}
-use Rattle.mr_clocks.specs.Whole.{IsNeededBy}
+use Rattle.mr_clocks.proofs.Common.{ℕ, ◌↔◌, IsUnder, IsNeededBy}
 use Rattle.mr_clocks.proofs.analysis.joined.Given as goal
 
 abbrev pub invariant-loop-x : goal.invariant-loop-x

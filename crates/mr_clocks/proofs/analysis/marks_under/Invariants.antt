@@ -1,5 +1,4 @@
-use Rattle.std.proofs.Common.{◌≡◌, ℕ, ◌<◌, ◌↔◌, IsTrue, false, length, get_or}
-use Rattle.mr_clocks.specs.Clocks.{IsUnder}
+use Rattle.mr_clocks.proofs.Common.{◌≡◌, ℕ, ◌<◌, ◌↔◌, IsTrue, false, length, get_or, IsUnder}
 use Rattle.mr_clocks.proofs.analysis.marks_under.Given as goal
 
 abbrev pub invariant-loop-k : goal.invariant-loop-k

@@ -1,4 +1,4 @@
-use Rattle.std.proofs.Common.{◌≡◌, ℕ, ◌<◌, ◌≤◌, max, length, slice_index}
+use Rattle.mr_clocks.proofs.Common.{◌≡◌, ℕ, ◌<◌, ◌≤◌, max, length, slice_index}
 use Rattle.mr_clocks.proofs.clock.raise_all.Given as goal
 
 abbrev pub invariant-loop-t : goal.invariant-loop-t

@@ -1,6 +1,4 @@
-use Rattle.std.proofs.Common.{refl, subst, sym, arith}
-use Rattle.mr_event.specs.Order.{thread_at}
-use Rattle.mr_clocks.specs.Clocks.{Follows, IsClockOf}
+use Rattle.mr_clocks.proofs.Common.{refl, subst, sym, arith, thread_at, Follows, IsClockOf}
 use Rattle.mr_clocks.proofs.Parts.{part_follows, under_old, under_own}
 use Rattle.mr_clocks.proofs.following.follow_edge.Goals as goal
 

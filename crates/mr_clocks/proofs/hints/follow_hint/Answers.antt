@@ -1,7 +1,5 @@
-use Rattle.std.proofs.Common.{ℕ, subst, arith}
-use Rattle.std.specs.Prelude.{IfSome, Option}
-use Rattle.mr_event.specs.Order.{Edge}
-use Rattle.mr_event.proofs.Ordered.{Edge-before}
+use Rattle.mr_clocks.proofs.Common.{ℕ, subst, arith, Option, Edge, Edge-before}
+use Rattle.std.specs.Prelude.{IfSome}
 use Rattle.mr_clocks.proofs.hints.follow_hint.Goals as goal
 
 pub is_under-requires : goal.is_under-requires

@@ -1,4 +1,4 @@
-use Rattle.std.proofs.Common.{◌-◌, arith}
+use Rattle.mr_clocks.proofs.Common.{◌-◌, arith}
 use Rattle.mr_clocks.proofs.Parts.{latest_step}
 use Rattle.mr_clocks.proofs.hints.is_known_before.Goals as goal
 

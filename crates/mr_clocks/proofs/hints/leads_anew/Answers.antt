@@ -1,4 +1,4 @@
-use Rattle.std.proofs.Common.{◌∙◌, ap, slice_index, sym}
+use Rattle.mr_clocks.proofs.Common.{◌∙◌, ap, slice_index, sym}
 use Rattle.mr_clocks.proofs.RowLaws.{next_of}
 use Rattle.mr_clocks.proofs.hints.leads_anew.Goals as goal
 

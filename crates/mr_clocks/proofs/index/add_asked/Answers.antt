@@ -1,4 +1,4 @@
-use Rattle.std.proofs.Common.{◌∷◌, []}
+use Rattle.mr_clocks.proofs.Common.{◌∷◌, []}
 use Rattle.mr_clocks.proofs.MarkLaws.{listed_kept, listed_push}
 use Rattle.mr_clocks.proofs.index.add_asked.Goals as goal
 

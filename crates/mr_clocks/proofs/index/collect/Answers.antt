@@ -1,7 +1,5 @@
-use Rattle.std.proofs.Common.{List, ◌-◌, ◌^◌, inr, refl, sym, ◌∙◌, subst, arith}
+use Rattle.mr_clocks.proofs.Common.{List, ◌-◌, ◌^◌, inr, refl, sym, ◌∙◌, subst, arith, mark_of, IsAsked, IsListed}
 use Rattle.mr_clocks.specs.declared.index.Mark.{Mark}
-use Rattle.mr_clocks.specs.Marks.{mark_of}
-use Rattle.mr_clocks.specs.Rows.{IsAsked, IsListed}
 use Rattle.mr_clocks.proofs.MarkLaws.{collected, low_mark, low_read, rows_of, wanted_all, wanted_more}
 use Rattle.mr_clocks.proofs.index.collect.Goals as goal
 

@@ -1,5 +1,4 @@
-use Rattle.std.proofs.Common.{ℕ, ◌⊎◌}
-use Rattle.mr_clocks.specs.Rows.{IsAsked, IsListed}
+use Rattle.mr_clocks.proofs.Common.{ℕ, ◌⊎◌, IsAsked, IsListed}
 use Rattle.mr_clocks.proofs.MarkLaws.{rows_of}
 use Rattle.mr_clocks.proofs.index.collect.Given as goal
 

@@ -1,4 +1,4 @@
-use Rattle.mr_clocks.specs.Rows.{IsAsked, IsListed}
+use Rattle.mr_clocks.proofs.Common.{IsAsked, IsListed}
 use Rattle.mr_clocks.proofs.MarkLaws.{key_found}
 use Rattle.mr_clocks.proofs.index.collect_key.Goals as goal
 

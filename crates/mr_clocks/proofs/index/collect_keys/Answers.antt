@@ -1,7 +1,4 @@
-use Rattle.std.proofs.Common.{ℕ, arith}
-use Rattle.mr_clocks.specs.Keys.{IsExact}
-use Rattle.mr_clocks.specs.Marks.{IsMarked}
-use Rattle.mr_clocks.specs.Rows.{IsAsked, IsListed}
+use Rattle.mr_clocks.proofs.Common.{ℕ, arith, IsExact, IsMarked, IsAsked, IsListed}
 use Rattle.mr_clocks.proofs.MarkLaws.{any_default, keys_all, keys_more}
 use Rattle.mr_clocks.proofs.index.collect_keys.Goals as goal
 

@@ -1,8 +1,4 @@
-use Rattle.std.proofs.Common.{ℕ, ◌<◌, get_or}
-use Rattle.mr_clocks.specs.declared.keys.Key.{Key}
-use Rattle.mr_clocks.specs.Keys.{IsExact}
-use Rattle.mr_clocks.specs.Marks.{IsMarked}
-use Rattle.mr_clocks.specs.Rows.{IsAsked, IsListed}
+use Rattle.mr_clocks.proofs.Common.{ℕ, ◌<◌, get_or, Key, IsExact, IsMarked, IsAsked, IsListed}
 use Rattle.mr_clocks.proofs.index.collect_keys.Given as goal
 
 abbrev pub invariant-loop-i : goal.invariant-loop-i

@@ -1,7 +1,4 @@
-use Rattle.std.proofs.Common.{◌≡◌, true, arith}
-use Rattle.mr_base.specs.declared.access.Access.{Access}
-use Rattle.mr_base.specs.Accesses.{conflicts}
-use Rattle.mr_clocks.specs.Rows.{IsAsked, IsListed}
+use Rattle.mr_clocks.proofs.Common.{◌≡◌, true, arith, Access, conflicts, IsAsked, IsListed}
 use Rattle.mr_clocks.proofs.MarkLaws.{range_all, range_more}
 use Rattle.mr_clocks.proofs.index.collect_range.Goals as goal
 

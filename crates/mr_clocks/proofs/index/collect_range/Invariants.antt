@@ -1,8 +1,4 @@
-use Rattle.std.proofs.Common.{◌≡◌, ℕ, ◌<◌, ◌^◌, true}
-use Rattle.mr_base.specs.declared.access.Access.{Access}
-use Rattle.mr_base.specs.Accesses.{conflicts}
-use Rattle.mr_clocks.specs.Marks.{IsOnShelf, has_mark, mark_of}
-use Rattle.mr_clocks.specs.Rows.{IsAsked, IsListed}
+use Rattle.mr_clocks.proofs.Common.{◌≡◌, ℕ, ◌<◌, ◌^◌, true, Access, conflicts, IsOnShelf, has_mark, mark_of, IsAsked, IsListed}
 use Rattle.mr_clocks.proofs.index.collect_range.Given as goal
 
 abbrev pub invariant-loop-s : goal.invariant-loop-s

@@ -1,9 +1,4 @@
-use Rattle.std.proofs.Common.{◌≡◌, ℕ, false, get_or, ap, sym, ◌∙◌, arith}
-use Rattle.std.proofs.lemmas.List.{get_or_default}
-use Rattle.std.proofs.lemmas.List.Folds.{Any-from_list_any}
-use native.Mathlib.Decide.{ℕ_discrete}
-use Rattle.mr_base.specs.declared.access.Access.{Access}
-use Rattle.mr_base.specs.Accesses.{conflicts}
+use Rattle.mr_clocks.proofs.Common.{◌≡◌, ℕ, false, get_or, ap, sym, ◌∙◌, arith, get_or_default, Any-from_list_any, ℕ_discrete, Access, conflicts}
 use Rattle.mr_clocks.proofs.index.collect_ranges.Goals as goal
 
 pub loop-i-preserved : goal.loop-i-preserved

@@ -1,9 +1,4 @@
-use Rattle.std.proofs.Common.{◌≡◌, ℕ, ◌<◌, true, get_or}
-use Rattle.mr_base.specs.declared.access.Access.{Access}
-use Rattle.mr_base.specs.Accesses.{conflicts}
-use Rattle.mr_clocks.specs.declared.keys.Key.TheVariants.{Range}
-use Rattle.mr_clocks.specs.Marks.{IsMarked}
-use Rattle.mr_clocks.specs.Rows.{IsAsked, IsListed}
+use Rattle.mr_clocks.proofs.Common.{◌≡◌, ℕ, ◌<◌, true, get_or, Access, conflicts, Range, IsMarked, IsAsked, IsListed}
 use Rattle.mr_clocks.proofs.index.collect_ranges.Given as goal
 
 abbrev pub invariant-loop-i : goal.invariant-loop-i

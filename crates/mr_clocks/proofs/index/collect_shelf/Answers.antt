@@ -1,4 +1,4 @@
-use Rattle.mr_clocks.specs.Rows.{IsAsked, IsListed}
+use Rattle.mr_clocks.proofs.Common.{IsAsked, IsListed}
 use Rattle.mr_clocks.proofs.MarkLaws.{none_found, shelf_found, shelf_read}
 use Rattle.mr_clocks.proofs.index.collect_shelf.Goals as goal
 

@@ -1,8 +1,5 @@
-use Rattle.std.proofs.Common.{List, ap, ◌∙◌}
-use Rattle.std.specs.List.{list_any}
+use Rattle.mr_clocks.proofs.Common.{List, ap, ◌∙◌, list_any, Access, conflicts}
 use Rattle.std.proofs.lemmas.Result.{on_ok_weaker}
-use Rattle.mr_base.specs.declared.access.Access.{Access}
-use Rattle.mr_base.specs.Accesses.{conflicts}
 use Rattle.mr_clocks.proofs.index.find_ranges.Goals as goal
 
 pub returns-in-None-clause-all : goal.returns-in-None-clause-all

@@ -1,6 +1,4 @@
-use Rattle.std.proofs.Common.{◌∙◌}
-use Rattle.std.proofs.lemmas.List.{get_or_default}
-use Rattle.mr_clocks.specs.Marks.{no_shelf}
+use Rattle.mr_clocks.proofs.Common.{◌∙◌, get_or_default, no_shelf}
 use Rattle.mr_clocks.proofs.index.find_shelf.Goals as goal
 
 pub returns-then-same_shelf : goal.returns-then-same_shelf

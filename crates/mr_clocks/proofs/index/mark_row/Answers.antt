@@ -1,5 +1,4 @@
-use Rattle.std.proofs.Common.{ap, sym, ◌∙◌, arith}
-use Rattle.mr_clocks.specs.Marks.{has_mark, mark_of}
+use Rattle.mr_clocks.proofs.Common.{ap, sym, ◌∙◌, arith, has_mark, mark_of}
 use Rattle.mr_clocks.proofs.MarkLaws.{marked_new, marks_kept}
 use Rattle.mr_clocks.proofs.index.mark_row.Goals as goal
 

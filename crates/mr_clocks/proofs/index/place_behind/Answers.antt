@@ -1,4 +1,4 @@
-use Rattle.std.proofs.Common.{arith}
+use Rattle.mr_clocks.proofs.Common.{arith}
 use Rattle.mr_clocks.proofs.index.place_behind.Goals as goal
 
 pub returns : goal.returns

@@ -1,8 +1,4 @@
-use Rattle.std.proofs.Common.{List, ℕ, refl, subst, ◌∙◌, sym}
-use Rattle.mr_clocks.specs.declared.index.Shelf.{Shelf}
-use Rattle.mr_clocks.specs.declared.rows.Row.{Row}
-use Rattle.mr_clocks.specs.Marks.{AreKept, AreMarked, IsMarked}
-use Rattle.mr_clocks.specs.Rows.{IsGrown, IsRowFor}
+use Rattle.mr_clocks.proofs.Common.{List, ℕ, refl, subst, ◌∙◌, sym, Shelf, Row, AreKept, AreMarked, IsMarked, IsGrown, IsRowFor}
 use Rattle.mr_clocks.proofs.MarkLaws.{all_kept, grown_push, grown_same, marked_push, row_pushed}
 use Rattle.mr_clocks.proofs.index.place_for.Goals as goal
 

@@ -1,5 +1,4 @@
-use Rattle.std.proofs.Common.{◌∙◌, ◌∷◌, [], length, length-append, ap, arith}
-use Rattle.mr_clocks.specs.Rows.{IsRowFor}
+use Rattle.mr_clocks.proofs.Common.{◌∙◌, ◌∷◌, [], length, length-append, ap, arith, IsRowFor}
 use Rattle.mr_clocks.proofs.MarkLaws.{any_default, grown_same, grown_trans}
 use Rattle.mr_clocks.proofs.Noting.{places_more}
 use Rattle.mr_clocks.proofs.index.places_for.Goals as goal

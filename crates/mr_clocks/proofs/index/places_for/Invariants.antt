@@ -1,7 +1,4 @@
-use Rattle.std.proofs.Common.{◌≡◌, ℕ, ◌<◌, get_or, length, slice_index}
-use Rattle.mr_clocks.specs.declared.keys.Key.{Key}
-use Rattle.mr_clocks.specs.Marks.{AreMarked}
-use Rattle.mr_clocks.specs.Rows.{IsGrown, IsRowFor}
+use Rattle.mr_clocks.proofs.Common.{◌≡◌, ℕ, ◌<◌, get_or, length, slice_index, Key, AreMarked, IsGrown, IsRowFor}
 use Rattle.mr_clocks.proofs.index.places_for.Given as goal
 
 abbrev pub invariant-loop-i : goal.invariant-loop-i

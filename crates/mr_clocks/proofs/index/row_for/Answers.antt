@@ -1,5 +1,4 @@
-use Rattle.std.proofs.Common.{◌-◌, ◌^◌, refl, arith}
-use Rattle.mr_clocks.specs.Marks.{mark_of}
+use Rattle.mr_clocks.proofs.Common.{◌-◌, ◌^◌, refl, arith, mark_of}
 use Rattle.mr_clocks.proofs.MarkLaws.{low_mark, low_read}
 use Rattle.mr_clocks.proofs.index.row_for.Goals as goal
 

@@ -1,9 +1,4 @@
-use Rattle.std.proofs.Common.{inl, inr, List, sym, ap, ◌∙◌, subst}
-use Rattle.std.specs.List.{Contains}
-use Rattle.mr_clocks.specs.declared.keys.Key.{Key}
-use Rattle.mr_clocks.specs.Keys.{asks}
-use Rattle.mr_clocks.specs.Marks.{IsMarked}
-use Rattle.mr_clocks.specs.Rows.{IsAsked, row_at}
+use Rattle.mr_clocks.proofs.Common.{inl, inr, List, sym, ap, ◌∙◌, subst, Contains, Key, asks, IsMarked, IsAsked, row_at}
 use Rattle.mr_clocks.proofs.KeyLists.{asked_listed, exact_or_range}
 use Rattle.mr_clocks.proofs.index.rows_asked.Goals as goal
 

@@ -1,9 +1,4 @@
-use Rattle.std.proofs.Common.{◌≡◌, ℕ, ◌<◌, ◌^◌, true}
-use Rattle.std.specs.List.{list_any}
-use Rattle.mr_base.specs.declared.access.Access.{Access}
-use Rattle.mr_base.specs.Accesses.{conflicts}
-use Rattle.mr_clocks.specs.Marks.{IsOnShelf, has_mark, mark_of}
-use Rattle.mr_clocks.specs.Rows.{IsAsked, IsListed}
+use Rattle.mr_clocks.proofs.Common.{◌≡◌, ℕ, ◌<◌, ◌^◌, true, list_any, Access, conflicts, IsOnShelf, has_mark, mark_of, IsAsked, IsListed}
 use Rattle.mr_clocks.proofs.index.sweep.Given as goal
 
 abbrev pub invariant-loop-s : goal.invariant-loop-s

@@ -1,7 +1,4 @@
-use Rattle.std.proofs.Common.{◌≡◌, ℕ, ◌<◌, ◌^◌, true, sym, ap, ◌∙◌, arith}
-use Rattle.mr_clocks.specs.declared.index.Shelf.{Shelf}
-use Rattle.mr_clocks.specs.Marks.{has_mark, mark_of, shelf_at}
-use Rattle.mr_clocks.specs.Rows.{IsAsked, IsListed}
+use Rattle.mr_clocks.proofs.Common.{◌≡◌, ℕ, ◌<◌, ◌^◌, true, sym, ap, ◌∙◌, arith, Shelf, has_mark, mark_of, shelf_at, IsAsked, IsListed}
 use Rattle.mr_clocks.proofs.MarkLaws.{shelf_read}
 use Rattle.mr_clocks.proofs.SpanLaws.{reached, swept_more}
 use Rattle.mr_clocks.proofs.index.sweep_shelf.Goals as goal

@@ -1,7 +1,4 @@
-use Rattle.std.proofs.Common.{◌≡◌, ℕ, ◌<◌, ◌^◌, true}
-use Rattle.mr_clocks.specs.Marks.{has_mark, mark_of}
-use Rattle.mr_clocks.specs.Rows.{IsAsked, IsListed}
-use Rattle.mr_clocks.specs.Spans.{IsReached}
+use Rattle.mr_clocks.proofs.Common.{◌≡◌, ℕ, ◌<◌, ◌^◌, true, has_mark, mark_of, IsAsked, IsListed, IsReached}
 use Rattle.mr_clocks.proofs.index.sweep_shelf.Given as goal
 
 abbrev pub invariant-loop-i : goal.invariant-loop-i

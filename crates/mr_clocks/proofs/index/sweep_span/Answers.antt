@@ -1,5 +1,4 @@
-use Rattle.std.proofs.Common.{arith}
-use native.Mathlib.Decide.{dec_lt}
+use Rattle.mr_clocks.proofs.Common.{arith, dec_lt}
 use Rattle.mr_clocks.proofs.index.sweep_span.Goals as goal
 
 pub returns-then-low-span-clause-all : goal.returns-then-low-span-clause-all

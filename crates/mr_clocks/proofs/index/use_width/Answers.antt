@@ -1,6 +1,4 @@
-use Rattle.std.proofs.Common.{◌≡◌, ◌<◌, List, length, refl, subst, ◌∙◌, sym, arith}
-use Rattle.mr_clocks.specs.declared.index.Shelf.{Shelf}
-use Rattle.mr_clocks.specs.Marks.{AreKept, IsOnShelf, shelf_at}
+use Rattle.mr_clocks.proofs.Common.{◌≡◌, ◌<◌, List, length, refl, subst, ◌∙◌, sym, arith, Shelf, AreKept, IsOnShelf, shelf_at}
 use Rattle.mr_clocks.proofs.MarkLaws.{all_kept_here, kept_push, on_new_shelf, on_shelf}
 use Rattle.mr_clocks.proofs.index.use_width.Goals as goal
 

@@ -1,6 +1,4 @@
-use Rattle.std.proofs.Common.{arith}
-use Rattle.mr_base.specs.declared.byte.AllocId.{AllocId}
-use Rattle.mr_clocks.specs.declared.keys.Key.TheVariants.{Made}
+use Rattle.mr_clocks.proofs.Common.{arith, AllocId, Made}
 use Rattle.mr_clocks.proofs.KeyLists.{mapped_all, mapped_more}
 use Rattle.mr_clocks.proofs.keys.add_made.Goals as goal
 

@@ -1,6 +1,4 @@
-use Rattle.std.proofs.Common.{false, arith}
-use Rattle.mr_base.specs.declared.access.Access.{Access}
-use Rattle.mr_clocks.specs.declared.keys.Key.TheVariants.{Range}
+use Rattle.mr_clocks.proofs.Common.{false, arith, Access, Range}
 use Rattle.mr_clocks.proofs.KeyLists.{mapped_all, mapped_more}
 use Rattle.mr_clocks.proofs.keys.add_ranges.Goals as goal
 

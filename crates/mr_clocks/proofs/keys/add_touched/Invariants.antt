@@ -1,5 +1,4 @@
-use Rattle.std.proofs.Common.{◌≡◌, ◌++◌, map, take}
-use Rattle.mr_clocks.specs.declared.keys.Key.TheVariants.{Touched}
+use Rattle.mr_clocks.proofs.Common.{◌≡◌, ◌++◌, map, take, Touched}
 use Rattle.mr_clocks.proofs.keys.add_touched.Given as goal
 
 abbrev pub invariant-loop-i : goal.invariant-loop-i

@@ -1,8 +1,4 @@
-use Rattle.std.proofs.Common.{ℕ, Bool, List, [], ◌∷◌, ◌++◌, ap, ap₂, ◌∙◌}
-use Rattle.mr_base.specs.declared.byte.AllocId.{AllocId}
-use Rattle.mr_base.specs.declared.thread.Event.{Event}
-use Rattle.mr_clocks.specs.declared.keys.Key.TheVariants.{Wakes}
-use Rattle.mr_clocks.specs.Keys.{end_asked, event_asked, made_keys, touched_keys}
+use Rattle.mr_clocks.proofs.Common.{ℕ, Bool, List, [], ◌∷◌, ◌++◌, ap, ap₂, ◌∙◌, AllocId, Event, Wakes, end_asked, event_asked, made_keys, touched_keys}
 use Rattle.mr_clocks.proofs.KeyLists.{six_parts}
 use Rattle.mr_clocks.proofs.keys.asked_by.Goals as goal
 

@@ -1,8 +1,4 @@
-use Rattle.std.proofs.Common.{ℕ, Bool, List, ◌++◌, ap, ap₂, ◌∙◌}
-use Rattle.mr_base.specs.declared.access.Access.{Access}
-use Rattle.mr_base.specs.declared.byte.AllocId.{AllocId}
-use Rattle.mr_base.specs.declared.thread.Event.{Event}
-use Rattle.mr_clocks.specs.Keys.{end_noted, event_noted, made_keys, range_keys, touched_keys}
+use Rattle.mr_clocks.proofs.Common.{ℕ, Bool, List, ◌++◌, ap, ap₂, ◌∙◌, Access, AllocId, Event, end_noted, event_noted, made_keys, range_keys, touched_keys}
 use Rattle.mr_clocks.proofs.KeyLists.{five_parts}
 use Rattle.mr_clocks.proofs.keys.noted_by.Goals as goal
 

@@ -1,5 +1,4 @@
-use Rattle.std.proofs.Common.{ℕ, ◌<◌, slice_index}
-use Rattle.mr_clocks.specs.Rows.{IsPlaceKnown}
+use Rattle.mr_clocks.proofs.Common.{ℕ, ◌<◌, slice_index, IsPlaceKnown}
 use Rattle.mr_clocks.proofs.known.are_latest_known.Given as goal
 
 abbrev pub invariant-loop-y : goal.invariant-loop-y

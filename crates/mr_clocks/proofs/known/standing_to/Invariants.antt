@@ -1,6 +1,4 @@
-use Rattle.std.proofs.Common.{ℕ, ◌<◌, slice_index}
-use Rattle.std.specs.Prelude.{IsTrue}
-use Rattle.mr_clocks.specs.Rows.{IsPlaceKnown, IsPlaceSeen}
+use Rattle.mr_clocks.proofs.Common.{ℕ, ◌<◌, slice_index, IsTrue, IsPlaceKnown, IsPlaceSeen}
 use Rattle.mr_clocks.proofs.known.standing_to.Given as goal
 
 abbrev pub invariant-loop-y : goal.invariant-loop-y

@@ -1,4 +1,4 @@
-use Rattle.std.proofs.Common.{◌-◌, sym, ◌∙◌, ap, arith, slice_index}
+use Rattle.mr_clocks.proofs.Common.{◌-◌, sym, ◌∙◌, ap, arith, slice_index}
 use Rattle.mr_clocks.proofs.Parts.{latest_step, part_of_first, part_of_latest}
 use Rattle.mr_clocks.proofs.made.base.Goals as goal
 

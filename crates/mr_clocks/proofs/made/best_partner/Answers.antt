@@ -1,4 +1,4 @@
-use Rattle.std.proofs.Common.{arith}
+use Rattle.mr_clocks.proofs.Common.{arith}
 use Rattle.mr_clocks.proofs.RowLaws.{greatest_rows}
 use Rattle.mr_clocks.proofs.made.best_partner.Goals as goal
 

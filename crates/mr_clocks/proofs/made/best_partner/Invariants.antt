@@ -1,5 +1,4 @@
-use Rattle.std.proofs.Common.{ℕ, ◌<◌, slice_index}
-use Rattle.mr_clocks.specs.Rows.{IsPlaceBeyond}
+use Rattle.mr_clocks.proofs.Common.{ℕ, ◌<◌, slice_index, IsPlaceBeyond}
 use Rattle.mr_clocks.specs.Tracked.{IsPartnerOr}
 use Rattle.mr_clocks.proofs.made.best_partner.Given as goal
 

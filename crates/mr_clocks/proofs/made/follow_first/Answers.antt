@@ -1,4 +1,4 @@
-use Rattle.std.proofs.Common.{◌∙◌}
+use Rattle.mr_clocks.proofs.Common.{◌∙◌}
 use Rattle.mr_clocks.proofs.made.follow_first.Goals as goal
 
 pub returns-clause-syncs : goal.returns-clause-syncs

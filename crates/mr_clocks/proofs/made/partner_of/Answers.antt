@@ -1,4 +1,4 @@
-use Rattle.std.proofs.Common.{◌-◌, arith}
+use Rattle.mr_clocks.proofs.Common.{◌-◌, arith}
 use Rattle.mr_clocks.proofs.made.partner_of.Goals as goal
 
 pub returns-else-best-eq0 : goal.returns-else-best-eq0

@@ -1,5 +1,5 @@
-use Rattle.std.proofs.Common.{◌-◌, ap, ◌∙◌, arith, slice_index, subst}
-use Rattle.mr_clocks.specs.Clocks.{IsClockOf, KeepsClock}
+use Rattle.mr_clocks.proofs.Common.{◌-◌, ap, ◌∙◌, arith, slice_index, subst, IsClockOf}
+use Rattle.mr_clocks.specs.Clocks.{KeepsClock}
 use Rattle.mr_clocks.proofs.Parts.{latest_step, part_ends, part_of_latest}
 use Rattle.mr_clocks.proofs.RowLaws.{known_alone, known_clock, next_of, seen_rows}
 use Rattle.mr_clocks.proofs.made.standing_of.Goals as goal

@@ -1,7 +1,4 @@
-use Rattle.std.proofs.Common.{◌≡◌, ℕ}
-use Rattle.std.specs.Prelude.{IsFalse}
-use Rattle.mr_clocks.specs.Clocks.{IsPart, IsUnder}
-use Rattle.mr_clocks.specs.Skips.{AreSkips}
+use Rattle.mr_clocks.proofs.Common.{◌≡◌, ℕ, IsFalse, IsPart, IsUnder, AreSkips}
 use Rattle.mr_clocks.proofs.made.walk_falling.Given as goal
 
 abbrev pub invariant-loop-k : goal.invariant-loop-k

@@ -1,7 +1,4 @@
-use Rattle.std.proofs.Common.{ℕ, ◌-◌, ◌∙◌, ap, slice_index, subst, sym, arith}
-use native.Mathlib.Decide.{ℕ_discrete}
-use Rattle.mr_clocks.specs.Clocks.{IsMade}
-use Rattle.mr_clocks.specs.Rows.{IsPlaceKnown, IsPlaceSeen, step_of}
+use Rattle.mr_clocks.proofs.Common.{ℕ, ◌-◌, ◌∙◌, ap, slice_index, subst, sym, arith, ℕ_discrete, IsMade, IsPlaceKnown, IsPlaceSeen, step_of}
 use Rattle.mr_clocks.proofs.Parts.{made_of, part_ends}
 use Rattle.mr_clocks.proofs.RowLaws.{known_alone, known_clock, known_stays, next_of, seen_rows}
 use Rattle.mr_clocks.proofs.SkipLaws.{skips_none}

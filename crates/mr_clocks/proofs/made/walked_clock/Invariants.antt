@@ -1,10 +1,4 @@
-use Rattle.std.proofs.Common.{◌≡◌, ℕ, ◌+◌, ◌<◌, slice_index}
-use Rattle.std.specs.Prelude.{IsFalse, IsTrue}
-use Rattle.mr_event.specs.Order.{thread_at}
-use Rattle.mr_clocks.specs.Clocks.{IsPart, clock_at}
-use Rattle.mr_clocks.specs.Rows.{IsPlaceKnown, IsPlaceSeen}
-use Rattle.mr_clocks.specs.Skips.{AreSkips}
-use Rattle.mr_clocks.specs.Wakers.{AreSyncsUnder}
+use Rattle.mr_clocks.proofs.Common.{◌≡◌, ℕ, ◌+◌, ◌<◌, slice_index, IsFalse, IsTrue, thread_at, IsPart, clock_at, IsPlaceKnown, IsPlaceSeen, AreSkips, AreSyncsUnder}
 use Rattle.mr_clocks.proofs.made.walked_clock.Given as goal
 
 abbrev pub invariant-loop-y : goal.invariant-loop-y

@@ -1,7 +1,4 @@
-use Rattle.std.proofs.Common.{◌≢◌, ◌≡◌, ℕ, ◌<◌, true, length, subst, sym, arith}
-use native.Mathlib.Decide.{ℕ_discrete}
-use Rattle.mr_clocks.specs.Keys.{asks}
-use Rattle.mr_clocks.specs.Rows.{IsListed, row_at}
+use Rattle.mr_clocks.proofs.Common.{◌≢◌, ◌≡◌, ℕ, ◌<◌, true, length, subst, sym, arith, ℕ_discrete, asks, IsListed, row_at}
 use Rattle.mr_clocks.proofs.memos.add_others.Goals as goal
 
 pub loop-x-init : goal.loop-x-init

@@ -1,6 +1,4 @@
-use Rattle.std.proofs.Common.{◌≡◌, ◌≢◌, ℕ, ◌<◌, ◌≤◌, true, length}
-use Rattle.mr_clocks.specs.Keys.{asks}
-use Rattle.mr_clocks.specs.Rows.{IsListed, row_at}
+use Rattle.mr_clocks.proofs.Common.{◌≡◌, ◌≢◌, ℕ, ◌<◌, ◌≤◌, true, length, asks, IsListed, row_at}
 use Rattle.mr_clocks.proofs.memos.add_others.Given as goal
 
 abbrev pub invariant-loop-x : goal.invariant-loop-x

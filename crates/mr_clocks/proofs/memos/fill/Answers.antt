@@ -1,5 +1,4 @@
-use Rattle.std.proofs.Common.{subst, sym, refl, arith}
-use Rattle.mr_clocks.specs.Memos.{AreMemos, IsMemo, no_memo}
+use Rattle.mr_clocks.proofs.Common.{subst, sym, refl, arith, AreMemos, IsMemo, no_memo}
 use Rattle.mr_clocks.proofs.Each.{each_pushed}
 use Rattle.mr_clocks.proofs.MemoLaws.{memo_none}
 use Rattle.mr_clocks.proofs.memos.fill.Goals as goal

@@ -1,7 +1,4 @@
-use Rattle.std.proofs.Common.{◌≡◌, List, vec_len}
-use Rattle.std.specs.Prelude.{vec_capacity}
-use Rattle.mr_clocks.specs.declared.rows.Row.{Row}
-use Rattle.mr_clocks.specs.Memos.{AreMemos}
+use Rattle.mr_clocks.proofs.Common.{◌≡◌, List, vec_len, vec_capacity, Row, AreMemos}
 use Rattle.mr_clocks.proofs.memos.fill.Given as goal
 
 abbrev pub invariant-loop-k : goal.invariant-loop-k

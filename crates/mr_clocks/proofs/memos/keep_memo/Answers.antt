@@ -1,6 +1,4 @@
-use Rattle.std.proofs.Common.{arith}
-use Rattle.std.proofs.lemmas.List.{get_or-set_same}
-use Rattle.mr_clocks.specs.Memos.{IsMemo, no_memo}
+use Rattle.mr_clocks.proofs.Common.{arith, get_or-set_same, IsMemo, no_memo}
 use Rattle.mr_clocks.proofs.Each.{each_set}
 use Rattle.mr_clocks.proofs.memos.keep_memo.Goals as goal
 

@@ -1,7 +1,4 @@
-use Rattle.std.proofs.Common.{◌≡◌, ◌+◌, ◌<◌, length, sym, ◌∙◌, ap, subst, arith}
-use Rattle.std.proofs.lemmas.List.{get_or_read}
-use Rattle.mr_event.specs.Likeness.{DoTheSame}
-use Rattle.mr_clocks.specs.Memos.{AreMemos, IsMemoOf, memo_at, no_memo}
+use Rattle.mr_clocks.proofs.Common.{◌≡◌, ◌+◌, ◌<◌, length, sym, ◌∙◌, ap, subst, arith, get_or_read, DoTheSame, AreMemos, IsMemoOf, memo_at, no_memo}
 use Rattle.mr_clocks.proofs.MemoLaws.{memo_alike, memo_exact, memo_here, memos_grown}
 use Rattle.mr_clocks.proofs.memos.look_further.Goals as goal
 

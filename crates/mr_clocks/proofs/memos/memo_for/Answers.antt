@@ -1,6 +1,4 @@
-use Rattle.std.proofs.Common.{List, sym, ◌∙◌, subst, arith}
-use Rattle.mr_clocks.specs.declared.rows.Row.{Row}
-use Rattle.mr_clocks.specs.Rows.{AreAllAsked}
+use Rattle.mr_clocks.proofs.Common.{List, sym, ◌∙◌, subst, arith, Row, AreAllAsked}
 use Rattle.mr_clocks.proofs.KeyLists.{places_from}
 use Rattle.mr_clocks.proofs.memos.memo_for.Goals as goal
 

@@ -1,8 +1,4 @@
-use Rattle.std.proofs.Common.{◌≡◌, ℕ, ◌+◌, ◌-◌, ◌∙◌, ap, subst, sym, arith}
-use Rattle.std.proofs.lemmas.Bool.{both_ways}
-use Rattle.mr_event.specs.Order.{RacePair}
-use Rattle.mr_clocks.specs.Clocks.{IsUnder}
-use Rattle.mr_clocks.specs.Rows.{row_at, step_of}
+use Rattle.mr_clocks.proofs.Common.{◌≡◌, ℕ, ◌+◌, ◌-◌, ◌∙◌, ap, subst, sym, arith, both_ways, RacePair, IsUnder, row_at, step_of}
 use Rattle.mr_clocks.proofs.Chains.{in_here}
 use Rattle.mr_clocks.proofs.RowLaws.{known_beyond, latest_rival}
 use Rattle.mr_clocks.proofs.rows.better.Goals as goal

@@ -1,8 +1,4 @@
-use Rattle.std.proofs.Common.{◌≡◌, ℕ, ◌+◌, ◌-◌, true, slice_index, subst, sym, ◌∙◌, ap, refl, arith}
-use Rattle.std.proofs.lemmas.Bool.{both_ways}
-use Rattle.mr_event.specs.Order.{thread_at, Edge}
-use Rattle.mr_clocks.specs.Clocks.{Follows, IsClockOf, IsPart, IsUnder}
-use Rattle.mr_clocks.specs.Rows.{step_of}
+use Rattle.mr_clocks.proofs.Common.{◌≡◌, ℕ, ◌+◌, ◌-◌, true, slice_index, subst, sym, ◌∙◌, ap, refl, arith, both_ways, thread_at, Edge, Follows, IsClockOf, IsPart, IsUnder, step_of}
 use Rattle.mr_clocks.proofs.Parts.{part_follows, under_old, under_own}
 use Rattle.mr_clocks.proofs.SkipLaws.{walking_end, walking_known, walking_left, walking_start, walking_step}
 use Rattle.mr_clocks.proofs.rows.follow_row.Goals as goal

@@ -1,6 +1,4 @@
-use Rattle.std.proofs.Common.{◌≡◌}
-use Rattle.std.specs.Prelude.{false}
-use Rattle.mr_clocks.specs.Skips.{IsWalking}
+use Rattle.mr_clocks.proofs.Common.{◌≡◌, false, IsWalking}
 use Rattle.mr_clocks.proofs.rows.follow_row.Given as goal
 
 abbrev pub invariant-loop-walk : goal.invariant-loop-walk

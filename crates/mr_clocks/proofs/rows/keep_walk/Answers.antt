@@ -1,5 +1,4 @@
-use Rattle.std.proofs.Common.{sym, subst}
-use Rattle.mr_clocks.specs.Skips.{IsSkip}
+use Rattle.mr_clocks.proofs.Common.{sym, subst, IsSkip}
 use Rattle.mr_clocks.proofs.SkipLaws.{skips_push}
 use Rattle.mr_clocks.proofs.rows.keep_walk.Goals as goal
 

@@ -1,7 +1,4 @@
-use Rattle.std.proofs.Common.{List, set, subst, refl, arith}
-use Rattle.std.proofs.lemmas.List.{get_or_read}
-use Rattle.mr_clocks.specs.declared.rows.Link.{Link}
-use Rattle.mr_clocks.specs.Rows.{IsBelow, no_row}
+use Rattle.mr_clocks.proofs.Common.{List, set, subst, refl, arith, get_or_read, Link, IsBelow, no_row}
 use Rattle.mr_clocks.proofs.Noting.{noted_from}
 use Rattle.mr_clocks.proofs.rows.note.Goals as goal
 

@@ -1,4 +1,4 @@
-use Rattle.std.proofs.Common.{slice_index, refl, arith}
+use Rattle.mr_clocks.proofs.Common.{slice_index, refl, arith}
 use Rattle.mr_clocks.proofs.Noting.{keys_same, longer_more, longer_none, noted_more, partly_ends, partly_start}
 use Rattle.mr_clocks.proofs.rows.note_all.Goals as goal
 

@@ -1,6 +1,4 @@
-use Rattle.std.proofs.Common.{◌≡◌, ℕ, ◌+◌, ◌<◌, slice_index, vec_len}
-use Rattle.std.specs.Prelude.{vec_capacity}
-use Rattle.mr_clocks.specs.Rows.{AreLonger, ArePartly, HaveKeysOf, IsKept, row_at}
+use Rattle.mr_clocks.proofs.Common.{◌≡◌, ℕ, ◌+◌, ◌<◌, slice_index, vec_len, vec_capacity, AreLonger, ArePartly, HaveKeysOf, IsKept, row_at}
 use Rattle.mr_clocks.proofs.rows.note_all.Given as goal
 
 abbrev pub invariant-loop-y : goal.invariant-loop-y

@@ -1,8 +1,5 @@
-use Rattle.std.proofs.Common.{◌≡◌, ℕ, ◌∙◌, ◌↔◌, IsTrue, Bool, List, [], ◌∷◌, ◌++◌, false, length, get_or, ap, sym, subst, arith, length-append}
-use Rattle.std.proofs.lemmas.List.{get_or_append_left}
+use Rattle.mr_clocks.proofs.Common.{◌≡◌, ℕ, ◌∙◌, ◌↔◌, IsTrue, Bool, List, [], ◌∷◌, ◌++◌, false, length, get_or, ap, sym, subst, arith, length-append, get_or_append_left, ℕ_discrete, HappensBefore}
 use Rattle.std.proofs.Math.Seq.{get_or-append_seam}
-use native.Mathlib.Decide.{ℕ_discrete}
-use Rattle.mr_event.specs.Order.{HappensBefore}
 use Rattle.mr_clocks.proofs.runs.follows_of.Goals as goal
 
 pub loop-k-preserved : goal.loop-k-preserved

@@ -1,8 +1,4 @@
-use Rattle.std.proofs.Common.{ℕ, false, get_or, subst, sym, arith}
-use Rattle.std.specs.List.{Contains}
-use Rattle.std.proofs.lemmas.List.{get_or_default}
-use native.Mathlib.Decide.{ℕ_discrete}
-use Rattle.mr_base.specs.declared.access.Access.{Access}
+use Rattle.mr_clocks.proofs.Common.{ℕ, false, get_or, subst, sym, arith, Contains, get_or_default, ℕ_discrete, Access}
 use Rattle.mr_clocks.proofs.skips.are_among.Goals as goal
 
 pub loop-i-preserved : goal.loop-i-preserved

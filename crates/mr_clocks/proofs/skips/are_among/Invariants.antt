@@ -1,6 +1,4 @@
-use Rattle.std.proofs.Common.{ℕ, ◌<◌, get_or}
-use Rattle.std.specs.List.{Contains}
-use Rattle.mr_base.specs.declared.access.Access.{Access}
+use Rattle.mr_clocks.proofs.Common.{ℕ, ◌<◌, get_or, Contains, Access}
 use Rattle.mr_clocks.proofs.skips.are_among.Given as goal
 
 abbrev pub invariant-loop-i : goal.invariant-loop-i

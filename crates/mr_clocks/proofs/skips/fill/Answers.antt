@@ -1,5 +1,4 @@
-use Rattle.std.proofs.Common.{sym, subst, refl, arith}
-use Rattle.mr_clocks.specs.Skips.{IsSkip}
+use Rattle.mr_clocks.proofs.Common.{sym, subst, refl, arith, IsSkip}
 use Rattle.mr_clocks.proofs.SkipLaws.{none_skips, skips_push}
 use Rattle.mr_clocks.proofs.skips.fill.Goals as goal
 

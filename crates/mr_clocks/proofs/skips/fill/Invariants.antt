@@ -1,8 +1,4 @@
-use Rattle.std.proofs.Common.{◌≡◌, ℕ, List, vec_len}
-use Rattle.std.specs.Prelude.{vec_capacity}
-use Rattle.mr_event.specs.Footprint.{Footprint}
-use Rattle.mr_clocks.specs.declared.rows.Link.{Link}
-use Rattle.mr_clocks.specs.Skips.{AreSkips}
+use Rattle.mr_clocks.proofs.Common.{◌≡◌, ℕ, List, vec_len, vec_capacity, Footprint, Link, AreSkips}
 use Rattle.mr_clocks.proofs.skips.fill.Given as goal
 
 abbrev pub invariant-loop-k : goal.invariant-loop-k

@@ -1,6 +1,4 @@
-use Rattle.std.proofs.Common.{false, ◌∙◌}
-use Rattle.std.proofs.lemmas.List.{get_or_default}
-use Rattle.mr_base.specs.declared.access.Access.{Access}
+use Rattle.mr_clocks.proofs.Common.{false, ◌∙◌, get_or_default, Access}
 use Rattle.mr_clocks.proofs.skips.has_access.Goals as goal
 
 pub returns-then-same_access : goal.returns-then-same_access

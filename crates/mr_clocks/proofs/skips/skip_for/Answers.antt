@@ -1,5 +1,4 @@
-use Rattle.std.proofs.Common.{◌<◌, length, subst, arith}
-use Rattle.mr_clocks.specs.Skips.{IsServing}
+use Rattle.mr_clocks.proofs.Common.{◌<◌, length, subst, arith, IsServing}
 use Rattle.mr_clocks.proofs.SkipLaws.{skip_read}
 use Rattle.mr_clocks.proofs.skips.skip_for.Goals as goal
 

@@ -1,9 +1,4 @@
-use Rattle.std.proofs.Common.{List, ap, subst, ◌∙◌}
-use Rattle.mr_base.specs.declared.access.Access.{Access}
-use Rattle.mr_event.specs.Footprint.{Footprint}
-use Rattle.mr_event.specs.Order.{step_at}
-use Rattle.mr_event.proofs.Read.{step_read}
-use Rattle.mr_clocks.specs.Skips.{AreAmong}
+use Rattle.mr_clocks.proofs.Common.{List, ap, subst, ◌∙◌, Access, Footprint, step_at, step_read, AreAmong}
 use Rattle.mr_clocks.proofs.skips.step_covers.Goals as goal
 
 pub returns : goal.returns

@@ -1,4 +1,4 @@
-use Rattle.std.proofs.Common.{arith}
+use Rattle.mr_clocks.proofs.Common.{arith}
 use Rattle.mr_clocks.proofs.SkipLaws.{skips_set}
 use Rattle.mr_clocks.proofs.skips.store.Goals as goal
 

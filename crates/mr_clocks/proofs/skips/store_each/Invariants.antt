@@ -1,7 +1,4 @@
-use Rattle.std.proofs.Common.{ℕ, List, vec_len}
-use Rattle.mr_event.specs.Footprint.{Footprint}
-use Rattle.mr_clocks.specs.declared.rows.Link.{Link}
-use Rattle.mr_clocks.specs.Skips.{AreSkips}
+use Rattle.mr_clocks.proofs.Common.{ℕ, List, vec_len, Footprint, Link, AreSkips}
 use Rattle.mr_clocks.proofs.skips.store_each.Given as goal
 
 abbrev pub invariant-loop-skip : goal.invariant-loop-skip

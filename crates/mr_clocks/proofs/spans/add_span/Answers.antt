@@ -1,8 +1,4 @@
-use Rattle.std.proofs.Common.{◌≡◌, ◌∷◌, [], ℕ, List, sym, ap, subst, arith}
-use Rattle.std.specs.List.{Contains}
-use Rattle.std.proofs.lemmas.List.Elements.{Contains-append_left, Contains-append_right}
-use Rattle.mr_clocks.specs.declared.spans.Span.{Span}
-use Rattle.mr_clocks.specs.Spans.{span_of}
+use Rattle.mr_clocks.proofs.Common.{◌≡◌, ◌∷◌, [], ℕ, List, sym, ap, subst, arith, Contains, Contains-append_left, Contains-append_right, Span, span_of}
 use Rattle.mr_clocks.proofs.spans.add_span.Goals as goal
 
 pub returns-clause-kept : goal.returns-clause-kept

@@ -1,5 +1,4 @@
-use Rattle.std.proofs.Common.{Bool, true, false, sym, subst}
-use Rattle.mr_clocks.specs.Spans.{AreSpansFor}
+use Rattle.mr_clocks.proofs.Common.{Bool, true, false, sym, subst, AreSpansFor}
 use Rattle.mr_clocks.proofs.spans.chosen.Goals as goal
 
 pub returns-then-every : goal.returns-then-every

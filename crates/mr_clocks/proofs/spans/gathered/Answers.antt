@@ -1,9 +1,4 @@
-use Rattle.std.proofs.Common.{◌≡◌, ℕ, ◌<◌, true, false, get_or, ap, sym, subst, ◌∙◌, arith}
-use Rattle.std.proofs.lemmas.List.{get_or_default}
-use Rattle.std.specs.List.{Contains}
-use native.Mathlib.Decide.{ℕ_discrete}
-use Rattle.mr_base.specs.declared.access.Access.{Access}
-use Rattle.mr_clocks.specs.Spans.{span_of}
+use Rattle.mr_clocks.proofs.Common.{◌≡◌, ℕ, ◌<◌, true, false, get_or, ap, sym, subst, ◌∙◌, arith, get_or_default, Contains, ℕ_discrete, Access, span_of}
 use Rattle.mr_clocks.proofs.spans.gathered.Goals as goal
 
 pub loop-i-init : goal.loop-i-init

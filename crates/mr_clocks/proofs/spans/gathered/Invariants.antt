@@ -1,7 +1,4 @@
-use Rattle.std.proofs.Common.{◌≡◌, ℕ, ◌<◌, true, false, get_or}
-use Rattle.std.specs.List.{Contains}
-use Rattle.mr_base.specs.declared.access.Access.{Access}
-use Rattle.mr_clocks.specs.Spans.{span_of}
+use Rattle.mr_clocks.proofs.Common.{◌≡◌, ℕ, ◌<◌, true, false, get_or, Contains, Access, span_of}
 use Rattle.mr_clocks.proofs.spans.gathered.Given as goal
 
 abbrev pub invariant-loop-i : goal.invariant-loop-i

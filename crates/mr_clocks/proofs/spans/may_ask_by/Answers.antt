@@ -1,5 +1,4 @@
-use Rattle.std.proofs.Common.{ap, sym, ◌∙◌}
-use Rattle.mr_clocks.specs.Keys.{asks}
+use Rattle.mr_clocks.proofs.Common.{ap, sym, ◌∙◌, asks}
 use Rattle.mr_clocks.proofs.SpanLaws.{overlap, rival}
 use Rattle.mr_clocks.proofs.spans.may_ask_by.Goals as goal
 

@@ -1,5 +1,4 @@
-use Rattle.std.proofs.Common.{◌∙◌, refl, arith}
-use Rattle.mr_clocks.specs.Spans.{span_at}
+use Rattle.mr_clocks.proofs.Common.{◌∙◌, refl, arith, span_at}
 use Rattle.mr_clocks.proofs.SpanLaws.{greater, risen_all, risen_more, risen_none}
 use Rattle.mr_clocks.proofs.spans.risen.Goals as goal
 

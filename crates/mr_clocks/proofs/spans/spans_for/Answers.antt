@@ -1,9 +1,6 @@
-use Rattle.std.proofs.Common.{List, sym, subst, rules}
-use Rattle.std.specs.List.{Contains}
+use Rattle.mr_clocks.proofs.Common.{List, sym, subst, rules, Contains, Span, span_of}
 use Rattle.std.specs.List.Sorted.{IsNonDecreasingBy}
 use Rattle.std.proofs.lemmas.List.Sorted.{Contains-permutation, IsNonDecreasingBy-from_sort_by_key}
-use Rattle.mr_clocks.specs.declared.spans.Span.{Span}
-use Rattle.mr_clocks.specs.Spans.{span_of}
 use Rattle.mr_clocks.proofs.spans.spans_for.Goals as goal
 
 pub risen-requires : goal.risen-requires

@@ -1,9 +1,6 @@
-use Rattle.std.proofs.Common.{arith, rules}
-use Rattle.std.specs.Prelude.{length, nat_lt}
+use Rattle.mr_clocks.proofs.Common.{arith, rules, length, nat_lt, Span, span_at}
 use Rattle.std.proofs.lemmas.List.Sorted.{IsPartitionPoint-from_clause, IsPartitionedBy-ltb}
 use Rattle.mr_base.proofs.Comparisons.{le_test, lt_test}
-use Rattle.mr_clocks.specs.declared.spans.Span.{Span}
-use Rattle.mr_clocks.specs.Spans.{span_at}
 use Rattle.mr_clocks.proofs.SpanLaws.{touch_found}
 use Rattle.mr_clocks.proofs.spans.touches.Goals as goal
 

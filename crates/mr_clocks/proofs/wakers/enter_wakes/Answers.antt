@@ -1,8 +1,4 @@
-use Rattle.std.proofs.Common.{◌≡◌, ◌∙◌, ap, sym}
-use Rattle.mr_event.specs.Footprint.{Footprint}
-use Rattle.mr_event.specs.Order.{step_at}
-use Rattle.mr_event.proofs.Read.{step_read}
-use Rattle.mr_clocks.specs.Wakers.{wakes_nobody}
+use Rattle.mr_clocks.proofs.Common.{◌≡◌, ◌∙◌, ap, sym, Footprint, step_at, step_read, wakes_nobody}
 use Rattle.mr_clocks.proofs.WakerLaws.{wakers_end, wakers_start, wakes_none}
 use Rattle.mr_clocks.proofs.wakers.enter_wakes.Goals as goal
 

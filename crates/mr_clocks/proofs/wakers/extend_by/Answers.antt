@@ -1,7 +1,4 @@
-use Rattle.std.proofs.Common.{ℕ, ◌<◌, ◌∙◌, ap, length, refl, subst, sym}
-use Rattle.std.proofs.lemmas.Bool.{eqb-true}
-use Rattle.mr_base.specs.declared.thread.Event.{Event}
-use Rattle.mr_event.specs.Footprints.{spawns}
+use Rattle.mr_clocks.proofs.Common.{ℕ, ◌<◌, ◌∙◌, ap, length, refl, subst, sym, eqb-true, Event, spawns}
 use Rattle.mr_clocks.proofs.WakerLaws.{extended_none}
 use Rattle.mr_clocks.proofs.wakers.extend_by.Goals as goal
 

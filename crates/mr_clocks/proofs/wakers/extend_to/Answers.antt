@@ -1,6 +1,4 @@
-use Rattle.std.proofs.Common.{ℕ, List, ◌<◌, length, refl, slice_index, subst, sym, arith}
-use native.Mathlib.Decide.{ℕ_discrete}
-use Rattle.mr_clocks.specs.Wakers.{AreExtended}
+use Rattle.mr_clocks.proofs.Common.{ℕ, List, ◌<◌, length, refl, slice_index, subst, sym, arith, ℕ_discrete, AreExtended}
 use Rattle.mr_clocks.proofs.WakerLaws.{extended_more, extended_none}
 use Rattle.mr_clocks.proofs.wakers.extend_to.Goals as goal
 

@@ -1,5 +1,4 @@
-use Rattle.std.proofs.Common.{ℕ, ◌<◌, length, slice_index}
-use Rattle.mr_clocks.specs.Wakers.{AreExtended}
+use Rattle.mr_clocks.proofs.Common.{ℕ, ◌<◌, length, slice_index, AreExtended}
 use Rattle.mr_clocks.proofs.wakers.extend_to.Given as goal
 
 abbrev pub invariant-loop-y : goal.invariant-loop-y

@@ -1,6 +1,4 @@
-use Rattle.std.proofs.Common.{◌∙◌, sym}
-use Rattle.std.proofs.lemmas.Bool.{both_ways}
-use Rattle.mr_event.specs.Order.Edge.{woken}
+use Rattle.mr_clocks.proofs.Common.{◌∙◌, sym, both_ways, woken}
 use Rattle.mr_clocks.proofs.wakers.follow_waker.Goals as goal
 
 pub edge-requires-clause-apart : goal.edge-requires-clause-apart

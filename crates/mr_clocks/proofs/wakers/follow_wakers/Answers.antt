@@ -1,8 +1,4 @@
-use Rattle.std.proofs.Common.{ℕ, ◌≡◌, ◌≢◌, ◌+◌, ◌-◌, ◌∙◌, ap, refl, slice_index, subst, sym, arith}
-use Rattle.mr_event.specs.Order.{thread_at, Sync}
-use Rattle.mr_clocks.specs.declared.rows.Link.{Link}
-use Rattle.mr_clocks.specs.Clocks.{IsUnder}
-use Rattle.mr_clocks.specs.Rows.{link_at, step_of}
+use Rattle.mr_clocks.proofs.Common.{ℕ, ◌≡◌, ◌≢◌, ◌+◌, ◌-◌, ◌∙◌, ap, refl, slice_index, subst, sym, arith, thread_at, Sync, Link, IsUnder, link_at, step_of}
 use Rattle.mr_clocks.proofs.WakerLaws.{ArePassed, passed_more, passed_start, syncs_seen}
 use Rattle.mr_clocks.proofs.wakers.follow_wakers.Goals as goal
 

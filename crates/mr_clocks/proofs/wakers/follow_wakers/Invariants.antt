@@ -1,7 +1,4 @@
-use Rattle.std.proofs.Common.{◌≡◌, ◌≤◌, length, slice_index}
-use Rattle.std.specs.Prelude.{IsFalse}
-use Rattle.mr_event.specs.Order.{thread_at}
-use Rattle.mr_clocks.specs.Clocks.{IsPart}
+use Rattle.mr_clocks.proofs.Common.{◌≡◌, ◌≤◌, length, slice_index, IsFalse, thread_at, IsPart}
 use Rattle.mr_clocks.proofs.WakerLaws.{ArePassed}
 use Rattle.mr_clocks.proofs.wakers.follow_wakers.Given as goal
 

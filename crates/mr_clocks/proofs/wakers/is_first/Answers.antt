@@ -1,5 +1,4 @@
-use Rattle.std.proofs.Common.{◌≡◌, ◌-◌, ◌∙◌, ap, sym, arith}
-use Rattle.mr_clocks.specs.Rows.{step_of}
+use Rattle.mr_clocks.proofs.Common.{◌≡◌, ◌-◌, ◌∙◌, ap, sym, arith, step_of}
 use Rattle.mr_clocks.proofs.wakers.is_first.Goals as goal
 
 pub returns-then-at-eq0-clause-other : goal.returns-then-at-eq0-clause-other

@@ -1,7 +1,4 @@
-use Rattle.std.proofs.Common.{◌≡◌, ◌-◌, ◌∙◌, ap, arith, slice_index}
-use Rattle.mr_event.specs.Order.{thread_at}
-use Rattle.mr_clocks.specs.declared.rows.Link.{Link}
-use Rattle.mr_clocks.specs.Rows.{step_of}
+use Rattle.mr_clocks.proofs.Common.{◌≡◌, ◌-◌, ◌∙◌, ap, arith, slice_index, thread_at, Link, step_of}
 use Rattle.mr_clocks.proofs.WakerLaws.{unwoken_by}
 use Rattle.mr_clocks.proofs.wakers.is_woken.Goals as goal
 

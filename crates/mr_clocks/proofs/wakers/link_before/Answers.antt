@@ -1,6 +1,4 @@
-use Rattle.std.proofs.Common.{◌-◌, arith}
-use Rattle.std.proofs.lemmas.List.{get_or_read}
-use Rattle.mr_clocks.specs.Rows.{no_link}
+use Rattle.mr_clocks.proofs.Common.{◌-◌, arith, get_or_read, no_link}
 use Rattle.mr_clocks.proofs.wakers.link_before.Goals as goal
 
 pub returns : goal.returns

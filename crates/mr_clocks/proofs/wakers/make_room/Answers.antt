@@ -1,9 +1,4 @@
-use Rattle.std.proofs.Common.{List, ℕ, ◌≡◌, ◌<◌, ◌∙◌, ap, length, refl, slice_index, subst, arith}
-use Rattle.mr_base.specs.declared.thread.Event.{Event}
-use Rattle.mr_event.specs.Footprint.{Footprint}
-use Rattle.mr_event.specs.Footprints.{spawns}
-use Rattle.mr_event.specs.Order.{step_at}
-use Rattle.mr_event.proofs.Read.{step_read}
+use Rattle.mr_clocks.proofs.Common.{List, ℕ, ◌≡◌, ◌<◌, ◌∙◌, ap, length, refl, slice_index, subst, arith, Event, Footprint, spawns, step_at, step_read}
 use Rattle.mr_clocks.proofs.WakerLaws.{extended_more, extended_none, wakes_each}
 use Rattle.mr_clocks.proofs.wakers.make_room.Goals as goal
 

@@ -1,8 +1,4 @@
-use Rattle.std.proofs.Common.{ℕ, ◌∙◌, ap, refl, slice_index, subst, sym}
-use Rattle.std.proofs.lemmas.Bool.{eq-eqb, eqb-true}
-use Rattle.mr_base.specs.declared.thread.Event.{Event}
-use Rattle.mr_event.specs.Footprints.{spawns}
-use Rattle.mr_clocks.specs.Rows.{IsKept}
+use Rattle.mr_clocks.proofs.Common.{ℕ, ◌∙◌, ap, refl, slice_index, subst, sym, eq-eqb, eqb-true, Event, spawns, IsKept}
 use Rattle.mr_clocks.proofs.wakers.note_spawned.Goals as goal
 
 pub note_wake-requires-clause-reached : goal.note_wake-requires-clause-reached

@@ -1,6 +1,4 @@
-use Rattle.std.proofs.Common.{◌≡◌, ◌≢◌, ◌+◌, ◌-◌, ◌++◌, ◌∷◌, [], ℕ, List, ap, length, set, slice_index, subst, ◌∙◌, arith}
-use Rattle.mr_clocks.specs.declared.rows.Link.{Link}
-use Rattle.mr_clocks.specs.Rows.{step_of}
+use Rattle.mr_clocks.proofs.Common.{◌≡◌, ◌≢◌, ◌+◌, ◌-◌, ◌++◌, ◌∷◌, [], ℕ, List, ap, length, set, slice_index, subst, ◌∙◌, arith, Link, step_of}
 use Rattle.mr_clocks.proofs.Chains.{in_here}
 use Rattle.mr_clocks.proofs.WakerLaws.{wake_kept, wake_own, wakers_more}
 use Rattle.mr_clocks.proofs.wakers.note_wake.Goals as goal

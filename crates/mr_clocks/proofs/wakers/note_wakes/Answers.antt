@@ -1,10 +1,4 @@
-use Rattle.std.proofs.Common.{List, ℕ, ◌≡◌, ◌<◌, ◌∙◌, ap, length, slice_index, subst, sym, arith}
-use Rattle.mr_base.specs.declared.thread.Event.{Event}
-use Rattle.mr_event.specs.Footprint.{Footprint}
-use Rattle.mr_event.specs.Footprints.{spawns}
-use Rattle.mr_event.specs.Order.{step_at}
-use Rattle.mr_event.proofs.Read.{step_read}
-use Rattle.mr_clocks.specs.Rows.{IsKept}
+use Rattle.mr_clocks.proofs.Common.{List, ℕ, ◌≡◌, ◌<◌, ◌∙◌, ap, length, slice_index, subst, sym, arith, Event, Footprint, spawns, step_at, step_read, IsKept}
 use Rattle.mr_clocks.proofs.WakerLaws.{wakers_end, wakers_start, wakes_each, wakes_spawned, wakes_woken}
 use Rattle.mr_clocks.proofs.wakers.note_wakes.Goals as goal
 

@@ -1,6 +1,4 @@
-use Rattle.std.proofs.Common.{ℕ, slice_index, subst, sym, arith}
-use native.Mathlib.Decide.{ℕ_discrete}
-use Rattle.mr_clocks.specs.Rows.{IsKept}
+use Rattle.mr_clocks.proofs.Common.{ℕ, slice_index, subst, sym, arith, ℕ_discrete, IsKept}
 use Rattle.mr_clocks.proofs.wakers.note_woken.Goals as goal
 
 pub note_wake-requires-clause-reached : goal.note_wake-requires-clause-reached

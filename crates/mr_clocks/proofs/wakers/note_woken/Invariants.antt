@@ -1,7 +1,4 @@
-use Rattle.std.proofs.Common.{◌≡◌, ℕ, ◌+◌, ◌<◌, ◌≤◌, length, slice_index, vec_len}
-use Rattle.std.specs.Prelude.{vec_capacity}
-use Rattle.mr_clocks.specs.Rows.{IsKept}
-use Rattle.mr_clocks.specs.Wakers.{AreWakers}
+use Rattle.mr_clocks.proofs.Common.{◌≡◌, ℕ, ◌+◌, ◌<◌, ◌≤◌, length, slice_index, vec_len, vec_capacity, IsKept, AreWakers}
 use Rattle.mr_clocks.proofs.wakers.note_woken.Given as goal
 
 abbrev pub invariant-loop-y : goal.invariant-loop-y

@@ -1,9 +1,4 @@
-use Rattle.std.proofs.Common.{◌≡◌, ◌∙◌, ap, refl, sym}
-use Rattle.std.proofs.lemmas.Bool.{both_ways}
-use Rattle.mr_event.specs.Footprint.{Footprint}
-use Rattle.mr_event.specs.Order.{step_at}
-use Rattle.mr_event.proofs.Read.{step_read}
-use Rattle.mr_clocks.specs.Wakers.{wakes_nobody}
+use Rattle.mr_clocks.proofs.Common.{◌≡◌, ◌∙◌, ap, refl, sym, both_ways, Footprint, step_at, step_read, wakes_nobody}
 use Rattle.mr_clocks.proofs.WakerLaws.{extended_none}
 use Rattle.mr_clocks.proofs.wakers.prepare_wakes.Goals as goal
 

@@ -1,6 +1,4 @@
-use Rattle.std.proofs.Common.{List, subst}
-use Rattle.std.specs.List.{Contains}
-use Rattle.mr_base.specs.declared.access.Access.{Access}
+use Rattle.mr_clocks.proofs.Common.{List, subst, Contains, Access}
 use Rattle.mr_clocks.proofs.SkipLaws.{all_among, among_push, pushed_among}
 use Rattle.mr_clocks.proofs.walks.add_access.Goals as goal
 

@@ -1,9 +1,5 @@
-use Rattle.std.proofs.Common.{◌≡◌, ℕ, false, get_or, ap, subst, sym, ◌∙◌, arith}
-use Rattle.std.specs.List.{Contains}
-use Rattle.std.proofs.lemmas.List.{get_or_default}
+use Rattle.mr_clocks.proofs.Common.{◌≡◌, ℕ, false, get_or, ap, subst, sym, ◌∙◌, arith, Contains, get_or_default, ℕ_discrete, Access}
 use Rattle.std.proofs.lemmas.List.Elements.{Contains-get_or}
-use native.Mathlib.Decide.{ℕ_discrete}
-use Rattle.mr_base.specs.declared.access.Access.{Access}
 use Rattle.mr_clocks.proofs.walks.add_all.Goals as goal
 
 pub loop-i-init : goal.loop-i-init

@@ -1,7 +1,4 @@
-use Rattle.std.proofs.Common.{ℕ, ◌<◌, List, get_or}
-use Rattle.std.specs.List.{Contains}
-use Rattle.mr_base.specs.declared.access.Access.{Access}
-use Rattle.mr_clocks.specs.Skips.{AreAmong}
+use Rattle.mr_clocks.proofs.Common.{ℕ, ◌<◌, List, get_or, Contains, Access, AreAmong}
 use Rattle.mr_clocks.proofs.walks.add_all.Given as goal
 
 abbrev pub invariant-loop-i : goal.invariant-loop-i

@@ -1,4 +1,4 @@
-use Rattle.mr_event.specs.Order.{step_at}
+use Rattle.mr_clocks.proofs.Common.{step_at}
 use Rattle.mr_clocks.proofs.SkipLaws.{race_with}
 use Rattle.mr_clocks.proofs.walks.note_race.Goals as goal
 

@@ -1,4 +1,4 @@
-use Rattle.std.proofs.Common.{◌≡◌, ℕ, ◌+◌, ◌-◌, arith}
+use Rattle.mr_clocks.proofs.Common.{◌≡◌, ℕ, ◌+◌, ◌-◌, arith}
 use Rattle.mr_clocks.proofs.SkipLaws.{walking_link, walking_step}
 use Rattle.mr_clocks.proofs.walks.pass_link.Goals as goal
 

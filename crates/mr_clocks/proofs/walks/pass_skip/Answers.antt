@@ -1,7 +1,4 @@
-use Rattle.std.proofs.Common.{ℕ, List, ap, subst, sym, ◌∙◌, arith}
-use Rattle.mr_base.specs.declared.access.Access.{Access}
-use Rattle.mr_event.specs.Order.{step_at}
-use Rattle.mr_clocks.specs.Skips.{AreAmong, IsWalking, skip_at}
+use Rattle.mr_clocks.proofs.Common.{ℕ, List, ap, subst, sym, ◌∙◌, arith, Access, step_at, AreAmong, IsWalking, skip_at}
 use Rattle.mr_clocks.proofs.SkipLaws.{skip_read, walking_skip}
 use Rattle.mr_clocks.proofs.walks.pass_skip.Goals as goal
 

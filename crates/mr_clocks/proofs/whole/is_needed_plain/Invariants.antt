@@ -1,5 +1,4 @@
-use Rattle.std.proofs.Common.{ℕ, ◌<◌, slice_index}
-use Rattle.mr_clocks.specs.Whole.{IsUpTo}
+use Rattle.mr_clocks.proofs.Common.{ℕ, ◌<◌, slice_index, IsUpTo}
 use Rattle.mr_clocks.proofs.whole.is_needed_plain.Given as goal
 
 abbrev pub invariant-loop-x : goal.invariant-loop-x

@@ -1,5 +1,4 @@
-use Rattle.std.proofs.Common.{refl, arith}
-use Rattle.mr_event.proofs.Ordered.{HappensBefore-before}
+use Rattle.mr_clocks.proofs.Common.{refl, arith, HappensBefore-before}
 use Rattle.mr_clocks.proofs.whole.is_ready_plain.Goals as goal
 
 pub returns : goal.returns

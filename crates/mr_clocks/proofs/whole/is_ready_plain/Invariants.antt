@@ -1,6 +1,4 @@
-use Rattle.std.proofs.Common.{ℕ, ◌<◌}
-use Rattle.mr_event.specs.Order.{HappensBefore, thread_at}
-use Rattle.mr_clocks.specs.Whole.{front_of}
+use Rattle.mr_clocks.proofs.Common.{ℕ, ◌<◌, HappensBefore, thread_at, front_of}
 use Rattle.mr_clocks.proofs.whole.is_ready_plain.Given as goal
 
 abbrev pub invariant-loop-a : goal.invariant-loop-a

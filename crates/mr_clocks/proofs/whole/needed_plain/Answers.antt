@@ -1,5 +1,4 @@
-use Rattle.std.proofs.Common.{arith, ◌∙◌, ap, length, length-append, ◌∷◌, []}
-use Rattle.mr_clocks.specs.Whole.{IsNeeded}
+use Rattle.mr_clocks.proofs.Common.{arith, ◌∙◌, ap, length, length-append, ◌∷◌, [], IsNeeded}
 use Rattle.mr_clocks.proofs.Wholes.{marks_more}
 use Rattle.mr_clocks.proofs.whole.needed_plain.Goals as goal
 

@@ -1,5 +1,4 @@
-use Rattle.std.proofs.Common.{◌≡◌, ℕ, ◌<◌, ◌↔◌, IsTrue, false, length, get_or}
-use Rattle.mr_clocks.specs.Whole.{IsNeeded}
+use Rattle.mr_clocks.proofs.Common.{◌≡◌, ℕ, ◌<◌, ◌↔◌, IsTrue, false, length, get_or, IsNeeded}
 use Rattle.mr_clocks.proofs.whole.needed_plain.Given as goal
 
 abbrev pub invariant-loop-k : goal.invariant-loop-k

@@ -1,9 +1,4 @@
-use Rattle.std.proofs.Common.{ap, subst, ℕ, List}
-use Rattle.std.specs.Prelude.{Err, Option}
-use Rattle.mr_io.specs.Counts.{Rose}
-use Rattle.mr_command.specs.Command.{asked}
-use Rattle.mr_input.specs.Writing.{IsRefusedOrLeft, IsWritten}
-use Rattle.mr_input.specs.Inputs.{holding}
+use Rattle.mr_command.proofs.Common.{ap, subst, ℕ, List, Err, Option, Rose, asked, IsRefusedOrLeft, IsWritten, holding}
 use Rattle.mr_command.specs.Outcome.{over_holding}
 use Rattle.mr_command.proofs.EndLaws.{program_unread, refused_ends, written_ends}
 use Rattle.mr_command.proofs.TraceRuns.{shows_refused, shows_written}

@@ -1,5 +1,5 @@
-use Rattle.std.proofs.Common.{subst}
-use Rattle.mr_command.specs.Command.{IsBounded, asked}
+use Rattle.mr_command.proofs.Common.{subst, asked}
+use Rattle.mr_command.specs.Command.{IsBounded}
 use Rattle.mr_command.specs.declared.command.Command.{Command}
 use Rattle.mr_command.proofs.answer.answer.Goals as goal
 

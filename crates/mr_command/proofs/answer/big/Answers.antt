@@ -1,4 +1,4 @@
-use Rattle.mr_answer.specs.Answers.{big_answer}
+use Rattle.mr_command.proofs.Common.{big_answer}
 use Rattle.mr_command.proofs.answer.big.Goals as goal
 
 pub returns-in-Ok-clause-answer : goal.returns-in-Ok-clause-answer

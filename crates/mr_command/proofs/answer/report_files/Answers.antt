@@ -1,5 +1,5 @@
-use Rattle.std.proofs.Common.{[], ◌∙◌}
-use Rattle.mr_input.proofs.InputLaws.{rose_in_all, was_read}
+use Rattle.mr_command.proofs.Common.{[], ◌∙◌, was_read}
+use Rattle.mr_input.proofs.InputLaws.{rose_in_all}
 use Rattle.mr_command.proofs.TextLaws.{run_over, unread_over}
 use Rattle.mr_command.proofs.TraceRuns.{spelled_program, unspelled}
 use Rattle.mr_command.proofs.answer.report_files.Goals as goal

@@ -1,5 +1,5 @@
 use Rattle.mr_command.proofs.TextLaws.{checked_reported}
-use Rattle.std.specs.Prelude.{Some}
+use Rattle.mr_command.proofs.Common.{Some}
 use Rattle.mr_input.specs.declared.refusal.Refusal.TheVariants.{Memory}
 use Rattle.mr_command.proofs.TraceRuns.{spelled_checked, unspelled}
 use Rattle.mr_command.proofs.answer.report_program.Goals as goal

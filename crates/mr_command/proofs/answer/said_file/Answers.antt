@@ -1,4 +1,4 @@
-use Rattle.std.proofs.Common.{[]}
+use Rattle.mr_command.proofs.Common.{[]}
 use Rattle.mr_command.proofs.TextLaws.{unsaid_over}
 use Rattle.mr_command.proofs.answer.said_file.Goals as goal
 

@@ -1,5 +1,4 @@
-use Rattle.std.proofs.Common.{[]}
-use Rattle.mr_input.proofs.InputLaws.{was_read}
+use Rattle.mr_command.proofs.Common.{[], was_read}
 use Rattle.mr_command.proofs.TextLaws.{not_upgraded_over, upgraded_over}
 use Rattle.mr_command.proofs.answer.upgraded_file.Goals as goal
 

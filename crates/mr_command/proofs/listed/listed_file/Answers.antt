@@ -1,4 +1,4 @@
-use Rattle.std.proofs.Common.{[]}
+use Rattle.mr_command.proofs.Common.{[]}
 use Rattle.mr_command.proofs.listed.listed_file.Goals as goal
 
 pub returns-clause-texts : goal.returns-clause-texts

@@ -1,7 +1,4 @@
-use Rattle.std.proofs.Common.{inl, ap, ◌∙◌}
-use Rattle.std.specs.Prelude.{Err}
-use Rattle.mr_input.specs.Answer.{told}
-use Rattle.mr_answer.specs.Answers.{listed}
+use Rattle.mr_command.proofs.Common.{inl, ap, ◌∙◌, Err, told, listed}
 use Rattle.mr_command.proofs.ListedLaws.{long_trace, some_long_trace}
 use Rattle.mr_command.proofs.TraceRuns.{bytes_long, bytes_read, of_bytes}
 use Rattle.mr_command.proofs.listed.read_races.Goals as goal

@@ -1,5 +1,4 @@
-use Rattle.std.proofs.Common.{◌∙◌, sym, ap₂}
-use Rattle.std.specs.Prelude.{not}
+use Rattle.mr_eval.proofs.Common.{◌∙◌, sym, ap₂, not}
 use Rattle.mr_eval.proofs.IntegerLaws.{bits_for-product}
 use Rattle.mr_eval.proofs.Widths.{mod-128}
 use Rattle.mr_eval.proofs.arithmetic.product.Goals as goal

@@ -1,7 +1,4 @@
-use Rattle.std.proofs.Common.{◌∙◌, sym, ap, Err}
-use Rattle.std.specs.Prelude.{int_div}
-use Rattle.std.proofs.lemmas.Result.{err_from_is_err_and}
-use Rattle.mr_eval.specs.Numbers.{value_of, bits_for}
+use Rattle.mr_eval.proofs.Common.{◌∙◌, sym, ap, Err, int_div, err_from_is_err_and, value_of, bits_for}
 use Rattle.mr_eval.proofs.Division.{undefined_for_all}
 use Rattle.mr_eval.proofs.arithmetic.quotient.Goals as goal
 

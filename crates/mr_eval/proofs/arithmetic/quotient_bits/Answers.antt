@@ -1,7 +1,6 @@
-use Rattle.std.proofs.Common.{◌∙◌, ap, ap₂, rules, to_z-of_z}
-use Rattle.std.specs.Prelude.{FitsSigned, int_div}
+use Rattle.mr_eval.proofs.Common.{◌∙◌, ap, ap₂, rules, FitsSigned, int_div, bits_for}
+use Rattle.std.proofs.Common.{to_z-of_z}
 use Rattle.std.specs.Int.{w128, cast_signed, cast_unsigned}
-use Rattle.mr_eval.specs.Numbers.{bits_for}
 use Rattle.mr_eval.proofs.Division.{bits_for-quotient}
 use Rattle.mr_eval.proofs.arithmetic.quotient_bits.Goals as goal
 

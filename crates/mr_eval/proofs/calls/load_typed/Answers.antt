@@ -1,7 +1,4 @@
-use Rattle.std.proofs.Common.{◌≡◌, true}
-use Rattle.mr_value.specs.Shape.{has_shape}
-use Rattle.mr_eval.specs.Answers.{same, seen}
-use Rattle.mr_eval.specs.Evaluated.{read_typed}
+use Rattle.mr_eval.proofs.Common.{◌≡◌, true, has_shape, same, seen, read_typed}
 use Rattle.mr_eval.proofs.CallLaws.{load_ruled, ruled}
 use Rattle.mr_eval.proofs.calls.load_typed.Goals as goal
 

@@ -1,10 +1,5 @@
-use Rattle.std.proofs.Common.{List, sym, subst}
-use Rattle.mr_ast.specs.declared.program.Local.{Local}
-use Rattle.mr_eval.specs.Answers.{at_pointer, seen}
-use Rattle.mr_eval.specs.Environment.{env_surround}
-use Rattle.mr_eval.specs.Evaluated.{placed}
-use Rattle.mr_eval.specs.Evaluation.{Surround}
-use Rattle.mr_eval.specs.Sound.{SoundPlace, any_result}
+use Rattle.mr_eval.proofs.Common.{List, sym, subst, Local, seen, env_surround, placed, Surround, SoundPlace, any_result}
+use Rattle.mr_eval.specs.Answers.{at_pointer}
 use Rattle.mr_eval.proofs.CallLaws.{env_place, place_ruled, ruled, with_locals}
 use Rattle.mr_eval.proofs.calls.place.Goals as goal
 

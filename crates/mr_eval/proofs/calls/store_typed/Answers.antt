@@ -1,13 +1,7 @@
-use Rattle.std.proofs.Common.{◌++◌, ◌≡◌, ap, subst, sym, take, ◌∙◌}
+use Rattle.mr_eval.proofs.Common.{◌++◌, ◌≡◌, ap, subst, sym, ◌∙◌, Memory, Outcome, encoding_of, Bytes, seen, Leaves, Seen}
+use Rattle.std.proofs.Common.{take}
 use Rattle.mr_layout.specs.declared.cache.Layout.{Layout}
-use Rattle.mr_mem.specs.Memory.{Memory}
 use Rattle.mr_runs.specs.Numbers.{with_provenance}
-use Rattle.mr_base.specs.Script.{Outcome}
-use Rattle.mr_value.specs.Encode.{encoding_of}
-use Rattle.mr_value.specs.Numbers.{Bytes}
-use Rattle.mr_eval.specs.Answers.{seen}
-use Rattle.mr_eval.specs.Environment.{Leaves}
-use Rattle.mr_eval.specs.Reads.{Seen}
 use Rattle.mr_eval.proofs.CallLaws.{store_run}
 use Rattle.mr_eval.proofs.calls.store_typed.Goals as goal
 

@@ -1,10 +1,4 @@
-use Rattle.std.proofs.Common.{List, sym, subst}
-use Rattle.mr_ast.specs.declared.program.Local.{Local}
-use Rattle.mr_eval.specs.Answers.{seen, value_in}
-use Rattle.mr_eval.specs.Environment.{ShapedAs, env_surround}
-use Rattle.mr_eval.specs.Evaluated.{valued}
-use Rattle.mr_eval.specs.Evaluation.{Surround}
-use Rattle.mr_eval.specs.Sound.{SoundValue}
+use Rattle.mr_eval.proofs.Common.{List, sym, subst, Local, seen, value_in, ShapedAs, env_surround, valued, Surround, SoundValue}
 use Rattle.mr_eval.proofs.CallLaws.{env_value, ruled, value_ruled, value_shaped, with_locals}
 use Rattle.mr_eval.proofs.calls.value.Goals as goal
 

@@ -1,23 +1,13 @@
-use Rattle.std.proofs.Common.{drop, get_or, refl, sym, ap, ap₂, subst, ◌∙◌, arith, ◌≡◌, Some, ◌+◌, true}
-use Rattle.mr_base.specs.Script.{Went}
-use Rattle.mr_eval.specs.Answers.{surround_of, seen}
-use Rattle.mr_eval.specs.Evaluated.{each_valued, valued}
-use Rattle.mr_eval.specs.Sound.{SoundPlace, SoundValue}
-use Rattle.mr_typing.specs.Known.{ty_of}
+use Rattle.mr_eval.proofs.Common.{drop, get_or, refl, sym, ap, ap₂, subst, ◌∙◌, arith, ◌≡◌, Some, ◌+◌, true, Went, surround_of, seen, each_valued, valued, SoundPlace, SoundValue, ty_of, result_type, type_of_place, Place, Value, err_from_is_err_and, Val}
 use Rattle.std.specs.Option.{is_some}
-use Rattle.mr_typing.specs.Types.{result_type, type_of_place}
-use Rattle.mr_ast.specs.declared.expr.Place.{Place}
-use Rattle.mr_ast.specs.declared.expr.Value.{Value}
+use Rattle.mr_eval.specs.declared.valuing.Valued.{Valued}
 use Rattle.mr_ast.specs.declared.expr.Place.TheVariants as place
 use Rattle.mr_ast.specs.declared.expr.Value.TheVariants as value
 use Rattle.mr_eval.proofs.EvalRuns.{fn_there}
-use Rattle.std.proofs.lemmas.Result.{err_from_is_err_and}
 use Rattle.mr_eval.proofs.ExtendsLaws.{extends_then}
 use Rattle.mr_eval.proofs.RowRuns.{behind_row, row_end, row_next, row_stop}
 use Rattle.mr_eval.proofs.ExprWeights.{place_weight, row_weight, value_weight, weight_addr_of, weight_binary, weight_cast, weight_deref, weight_disc, weight_field, weight_in_row, weight_index, weight_load, weight_transmute, weight_tuple, weight_unary, weight_union, weight_variant, weight_variant_place}
 use Rattle.mr_eval.proofs.SoundParts.{int_fits, place_ok, result_given, shape_given, sound_addr_of, sound_array, sound_at, sound_behind, sound_cast, sound_deref, sound_disc, sound_field, sound_index, sound_left, sound_load, sound_right, sound_transmute, sound_tuple, sound_unary, sound_union, sound_variant, sound_variant_place, transmute_types, union_content, value_ok, variant_there}
-use Rattle.mr_value.specs.declared.val.Val.{Val}
-use Rattle.mr_eval.specs.declared.valuing.Valued.{Valued}
 use Rattle.mr_eval.proofs.GivesLaws.{beside_first}
 use Rattle.mr_eval.proofs.evaluating.+evaluated.Goals as goal
 

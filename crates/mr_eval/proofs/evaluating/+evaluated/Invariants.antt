@@ -1,8 +1,4 @@
-use Rattle.std.proofs.Common.{◌≡◌, ◌+◌, ◌*◌, ◌++◌, drop}
-use Rattle.mr_base.specs.Script.{Went, on}
-use Rattle.mr_eval.specs.Answers.{Extends, surround_of, seen}
-use Rattle.mr_eval.specs.Evaluated.{each_valued}
-use Rattle.mr_eval.specs.Sound.{SoundValues}
+use Rattle.mr_eval.proofs.Common.{◌≡◌, ◌+◌, ◌*◌, ◌++◌, drop, Went, on, Extends, surround_of, seen, each_valued, SoundValues}
 use Rattle.mr_eval.proofs.ExprWeights.{place_weight, row_weight, value_weight}
 use Rattle.mr_eval.proofs.evaluating.+evaluated.Given as goal
 

@@ -1,4 +1,4 @@
-use Rattle.std.proofs.Common.{sym}
+use Rattle.mr_eval.proofs.Common.{sym}
 use Rattle.mr_eval.proofs.ScalarRuns.{target_dangling}
 use Rattle.mr_eval.proofs.loading.check_target.Goals as goal
 

@@ -1,7 +1,5 @@
-use Rattle.std.proofs.Common.{sym, ap, ◌∙◌}
+use Rattle.mr_eval.proofs.Common.{sym, ap, ◌∙◌, read, bytes_of_pieces}
 use Rattle.mr_layout.specs.declared.cache.Layout.{Layout}
-use Rattle.mr_mem.specs.Memory.{read}
-use Rattle.mr_runs.specs.Pieces.{bytes_of_pieces}
 use Rattle.mr_eval.proofs.ScalarRuns.{scalar_lent, scalar_refused}
 use Rattle.mr_eval.proofs.loading.load_sized.Goals as goal
 

@@ -1,6 +1,4 @@
-use Rattle.std.proofs.Common.{sym, ◌∙◌}
-use Rattle.mr_runs.specs.Pieces.{bytes_of_pieces}
-use Rattle.mr_eval.specs.Answers.{seen}
+use Rattle.mr_eval.proofs.Common.{sym, ◌∙◌, bytes_of_pieces, seen}
 use Rattle.mr_eval.proofs.LoadRuns.{read_found, read_meaningless}
 use Rattle.mr_eval.proofs.loading.read_typed.Goals as goal
 

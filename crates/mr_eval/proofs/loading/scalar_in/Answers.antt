@@ -1,7 +1,5 @@
-use Rattle.std.proofs.Common.{sym}
-use Rattle.mr_runs.specs.Pieces.{bytes_of_pieces}
+use Rattle.mr_eval.proofs.Common.{sym, bytes_of_pieces, meaningless}
 use Rattle.mr_eval.specs.Noted.{listed}
-use Rattle.mr_eval.specs.Typed.{meaningless}
 use Rattle.mr_eval.proofs.ScalarRuns.{scalar_dangling, scalar_passed}
 use Rattle.mr_eval.proofs.loading.scalar_in.Goals as goal
 

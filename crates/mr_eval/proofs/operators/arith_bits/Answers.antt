@@ -1,5 +1,4 @@
-use Rattle.std.proofs.Common.{sym}
-use Rattle.mr_value.specs.declared.val.Val.{out-Val}
+use Rattle.mr_eval.proofs.Common.{sym, out-Val}
 use Rattle.mr_eval.proofs.OwnReasons.{arith_stops}
 use Rattle.mr_eval.proofs.operators.arith_bits.Goals as goal
 

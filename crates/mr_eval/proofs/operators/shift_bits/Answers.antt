@@ -1,4 +1,4 @@
-use Rattle.std.proofs.Common.{sym}
+use Rattle.mr_eval.proofs.Common.{sym}
 use Rattle.mr_eval.proofs.OwnReasons.{shift_stops}
 use Rattle.mr_eval.proofs.operators.shift_bits.Goals as goal
 

@@ -1,5 +1,4 @@
-use Rattle.std.proofs.Common.{false, sym}
-use Rattle.mr_eval.specs.Answers.{seen}
+use Rattle.mr_eval.proofs.Common.{false, sym, seen}
 use Rattle.mr_eval.proofs.RefusedLaws.{read_refused}
 use Rattle.mr_eval.proofs.reads.lend.Goals as goal
 

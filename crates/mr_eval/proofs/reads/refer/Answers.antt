@@ -1,5 +1,4 @@
-use Rattle.std.proofs.Common.{sym}
-use Rattle.mr_eval.specs.Answers.{seen}
+use Rattle.mr_eval.proofs.Common.{sym, seen}
 use Rattle.mr_eval.proofs.RefusedLaws.{refer_refused}
 use Rattle.mr_eval.proofs.reads.refer.Goals as goal
 

@@ -1,10 +1,5 @@
-use Rattle.std.proofs.Common.{◌≡◌, ◌++◌, Option, length, refl, ap, ◌∙◌, subst}
+use Rattle.mr_eval.proofs.Common.{◌≡◌, ◌++◌, Option, length, refl, ap, ◌∙◌, subst, decoded, encoding_of, Bytes, Val, ty_of}
 use Rattle.std.specs.Prelude.{IfOk}
-use Rattle.mr_value.specs.Decode.{decoded}
-use Rattle.mr_value.specs.Encode.{encoding_of}
-use Rattle.mr_value.specs.Numbers.{Bytes}
-use Rattle.mr_value.specs.declared.val.Val.{Val}
-use Rattle.mr_typing.specs.Known.{ty_of}
 use Rattle.mr_eval.proofs.RecastLaws.{replaced_whole, transmute_sized}
 use Rattle.mr_eval.proofs.recasting.recast.Goals as goal
 

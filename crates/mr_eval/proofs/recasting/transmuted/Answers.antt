@@ -1,12 +1,4 @@
-use Rattle.std.proofs.Common.{◌≡◌, Some, None, sym, ◌∙◌, subst}
-use Rattle.mr_base.specs.declared.reason.Reason.TheVariants.{TransmuteInvalid}
-use Rattle.mr_base.specs.Stops.{plainly}
-use Rattle.mr_base.specs.Script.{Outcome}
-use Rattle.mr_value.specs.Decode.{decoded}
-use Rattle.mr_value.specs.Encode.{encoding_of}
-use Rattle.mr_value.specs.declared.val.Val.{Val}
-use Rattle.mr_typing.specs.Known.{ty_of}
-use Rattle.mr_eval.specs.Answers.{Gives, same, seen}
+use Rattle.mr_eval.proofs.Common.{◌≡◌, Some, None, sym, ◌∙◌, subst, TransmuteInvalid, plainly, Outcome, decoded, encoding_of, Val, ty_of, Gives, same, seen}
 use Rattle.mr_eval.proofs.LoadRuns.{meant_none, meant_some, transmuted_run}
 use Rattle.mr_eval.proofs.recasting.transmuted.Goals as goal
 

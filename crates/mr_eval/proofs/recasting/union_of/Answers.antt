@@ -1,8 +1,4 @@
-use Rattle.std.proofs.Common.{◌≡◌, ◌≤◌, ◌+◌, ◌++◌, length, sym, ap, ◌∙◌, subst}
-use Rattle.mr_value.specs.Encode.{encoding_of}
-use Rattle.mr_value.specs.Numbers.{Bytes}
-use Rattle.mr_runs.specs.Ranges.{with_range_replaced}
-use Rattle.mr_value.specs.Encode.{blank}
+use Rattle.mr_eval.proofs.Common.{◌≡◌, ◌≤◌, ◌+◌, ◌++◌, length, sym, ap, ◌∙◌, subst, encoding_of, Bytes, with_range_replaced, blank}
 use Rattle.mr_eval.proofs.RecastLaws.{union_made, union_means, union_part}
 use Rattle.mr_eval.proofs.recasting.union_of.Goals as goal
 

@@ -1,11 +1,4 @@
-use Rattle.std.proofs.Common.{List, sym, ap, ◌∙◌}
-use Rattle.mr_ast.specs.declared.types.Num.{Num}
-use Rattle.mr_ast.specs.declared.types.Tree.{Tree}
-use Rattle.mr_base.specs.declared.byte.Pointer.{Pointer}
-use Rattle.mr_base.specs.Script.{Outcome, on}
-use Rattle.mr_eval.specs.Answers.{seen}
-use Rattle.mr_eval.specs.Reads.{Seen}
-use Rattle.mr_eval.specs.Evaluated.{chosen_number, found_number, read_number}
+use Rattle.mr_eval.proofs.Common.{List, sym, ap, ◌∙◌, Num, Tree, Pointer, Outcome, on, seen, Seen, chosen_number, found_number, read_number}
 use Rattle.mr_eval.proofs.SearchRuns.{found_branch}
 use Rattle.mr_eval.proofs.search.+found_number.Goals as goal
 

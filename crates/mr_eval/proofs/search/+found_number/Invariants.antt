@@ -1,6 +1,4 @@
-use Rattle.std.proofs.Common.{◌≡◌, drop}
-use Rattle.mr_eval.specs.Answers.{Extends, seen}
-use Rattle.mr_eval.specs.Evaluated.{chosen_number, found_number}
+use Rattle.mr_eval.proofs.Common.{◌≡◌, drop, Extends, seen, chosen_number, found_number}
 use Rattle.mr_eval.proofs.search.+found_number.Given as goal
 
 abbrev pub invariant-loop-case : goal.invariant-loop-case

@@ -1,4 +1,4 @@
-use Rattle.std.proofs.Common.{◌∙◌, sym}
+use Rattle.mr_eval.proofs.Common.{◌∙◌, sym}
 use Rattle.mr_eval.proofs.IntegerLaws.{bits_for-times_pow}
 use Rattle.mr_eval.proofs.Widths.{mod-128}
 use Rattle.mr_eval.proofs.shifts.left.Goals as goal

@@ -1,6 +1,4 @@
-use Rattle.std.proofs.Common.{ap, ◌∙◌, arith}
-use Rattle.mr_ast.specs.declared.types.Ty.{Ty}
-use Rattle.mr_eval.specs.Typed.{targets_of}
+use Rattle.mr_eval.proofs.Common.{ap, ◌∙◌, arith, Ty, targets_of}
 use Rattle.mr_eval.proofs.TargetLaws.{fields_end, nothing_left, nothing_more, targets_bool, targets_fn_ptr, targets_int, targets_raw, targets_union}
 use Rattle.mr_eval.proofs.targets.+targets.Goals as goal
 

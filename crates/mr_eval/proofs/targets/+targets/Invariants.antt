@@ -1,5 +1,4 @@
-use Rattle.std.proofs.Common.{◌≡◌, ◌++◌, drop}
-use Rattle.mr_eval.specs.Typed.{element_targets, targets_of, targets_of_fields, targets_of_variant}
+use Rattle.mr_eval.proofs.Common.{◌≡◌, ◌++◌, drop, element_targets, targets_of, targets_of_fields, targets_of_variant}
 use Rattle.mr_eval.proofs.targets.+targets.Given as goal
 
 abbrev pub invariant-add_fields-loop-i : goal.invariant-add_fields-loop-i

@@ -1,6 +1,4 @@
-use Rattle.std.proofs.Common.{arith}
-use Rattle.std.proofs.lemmas.Result.{err_from_is_err_and}
-use Rattle.mr_eval.specs.Answers.{seen}
+use Rattle.mr_eval.proofs.Common.{arith, err_from_is_err_and, seen}
 use Rattle.mr_eval.proofs.ExtendsLaws.{extends_then}
 use Rattle.mr_eval.proofs.ReferRuns.{referred_end, referred_next, referred_stop}
 use Rattle.mr_eval.proofs.targets.refer_all.Goals as goal

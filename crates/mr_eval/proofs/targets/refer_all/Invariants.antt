@@ -1,6 +1,4 @@
-use Rattle.std.proofs.Common.{◌≡◌, drop}
-use Rattle.mr_eval.specs.Answers.{Extends, seen}
-use Rattle.mr_eval.specs.Evaluated.{referred_to}
+use Rattle.mr_eval.proofs.Common.{◌≡◌, drop, Extends, seen, referred_to}
 use Rattle.mr_eval.proofs.targets.refer_all.Given as goal
 
 abbrev pub invariant-loop-target : goal.invariant-loop-target

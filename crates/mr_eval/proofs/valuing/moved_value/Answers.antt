@@ -1,9 +1,4 @@
-use Rattle.std.proofs.Common.{rules, Err}
-use Rattle.std.proofs.lemmas.Result.{err_from_is_err_and}
-use Rattle.mr_base.specs.Script.{run}
-use Rattle.mr_eval.specs.Answers.{Gives, same, seen}
-use Rattle.mr_eval.specs.Moves.{moved}
-use Rattle.mr_eval.specs.Reads.{reading}
+use Rattle.mr_eval.proofs.Common.{rules, Err, err_from_is_err_and, run, Gives, same, seen, moved, reading}
 use Rattle.mr_eval.proofs.GivesLaws.{moved_stop}
 use Rattle.mr_eval.proofs.valuing.moved_value.Goals as goal
 

@@ -1,7 +1,5 @@
-use Rattle.std.proofs.Common.{◌≡◌, suc, ◌-◌, ◌<◌, subst, sym, ◌∙◌, length, get_or, [], arith}
-use Rattle.std.proofs.lemmas.Bool.{both_ways}
+use Rattle.mr_event.proofs.Common.{◌≡◌, suc, ◌-◌, ◌<◌, subst, sym, ◌∙◌, length, get_or, [], arith, both_ways, Follows, IsClock}
 use Rattle.std.proofs.lemmas.List.{get_or_read}
-use Rattle.mr_event.specs.Clocks.{Follows, IsClock}
 use Rattle.mr_event.proofs.ClockSteps.{IsClockFrom, below_by_edges, clock_follows, clock_stays}
 use Rattle.mr_event.proofs.clocks.clock_of.Goals as goal
 use Rattle.mr_event.proofs.clocks.clock_of.Goals.{else-not-is_below-via-then-not-is_below+else-edge, else-not-is_below-via-else-not-is_below}

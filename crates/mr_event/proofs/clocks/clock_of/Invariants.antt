@@ -1,4 +1,4 @@
-use Rattle.std.proofs.Common.{◌≡◌, length}
+use Rattle.mr_event.proofs.Common.{◌≡◌, length}
 use Rattle.mr_event.proofs.ClockSteps.{IsClockFrom}
 use Rattle.mr_event.proofs.clocks.clock_of.Given as goal
 

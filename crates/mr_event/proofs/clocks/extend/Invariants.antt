@@ -1,5 +1,4 @@
-use Rattle.std.proofs.Common.{◌≡◌, length}
-use Rattle.mr_event.specs.Clocks.{AreClocks}
+use Rattle.mr_event.proofs.Common.{◌≡◌, length, AreClocks}
 use Rattle.mr_event.proofs.clocks.extend.Given as goal
 
 abbrev pub invariant-loop-j : goal.invariant-loop-j

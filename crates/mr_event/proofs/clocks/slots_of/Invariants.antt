@@ -1,4 +1,4 @@
-use Rattle.std.proofs.Common.{◌≤◌}
+use Rattle.mr_event.proofs.Common.{◌≤◌}
 use Rattle.mr_event.specs.Clocks.{AreSlotsBelow}
 use Rattle.mr_event.proofs.clocks.slots_of.Given as goal
 

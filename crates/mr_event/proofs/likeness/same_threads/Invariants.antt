@@ -1,4 +1,4 @@
-use Rattle.std.proofs.Common.{◌≡◌, length, take}
+use Rattle.mr_event.proofs.Common.{◌≡◌, length, take}
 use Rattle.mr_event.proofs.likeness.same_threads.Given as goal
 
 abbrev pub invariant-loop-i : goal.invariant-loop-i

@@ -1,5 +1,4 @@
-use Rattle.std.proofs.Common.{◌-◌, arith}
-use Rattle.std.proofs.lemmas.Bool.{both_ways}
+use Rattle.mr_event.proofs.Common.{◌-◌, arith, both_ways}
 use Rattle.mr_event.proofs.Follows.{partner_found}
 use Rattle.mr_event.proofs.races.partner_by.Goals as goal
 

@@ -1,5 +1,4 @@
-use Rattle.std.proofs.Common.{ℕ, ◌≤◌}
-use Rattle.mr_event.specs.Order.{RacePair}
+use Rattle.mr_event.proofs.Common.{ℕ, ◌≤◌, RacePair}
 use Rattle.mr_event.proofs.races.partner_by.Given as goal
 
 abbrev pub invariant-loop-i : goal.invariant-loop-i

@@ -1,6 +1,4 @@
-use Rattle.std.proofs.Common.{◌≡◌}
-use Rattle.mr_event.specs.Clocks.{AreClocks}
-use Rattle.mr_event.specs.Predicted.{predicted_below}
+use Rattle.mr_event.proofs.Common.{◌≡◌, AreClocks, predicted_below}
 use Rattle.mr_event.proofs.races.predicted_plain.Given as goal
 
 abbrev pub invariant-loop-j : goal.invariant-loop-j

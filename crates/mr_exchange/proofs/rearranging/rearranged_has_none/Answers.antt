@@ -1,6 +1,5 @@
-use Rattle.std.proofs.Common.{arith, add-one}
-use Rattle.std.proofs.lemmas.List.{length-map}
-use Rattle.mr_event.specs.Order.{step_at}
+use Rattle.mr_exchange.proofs.Common.{arith, length-map, step_at}
+use Rattle.std.proofs.Common.{add-one}
 use Rattle.mr_exchange.proofs.Rearranged.{none_in_rearranged, none_reported}
 use Rattle.mr_exchange.proofs.rearranging.rearranged_has_none.Goals as goal
 

@@ -1,10 +1,7 @@
-use Rattle.std.proofs.Common.{◌≡◌, ◌+◌, ◌<◌, ◌^◌, length, sym, ◌∙◌, subst, Err, Ok}
-use Rattle.mr_typing.specs.Walk.{WellFormed}
+use Rattle.mr_fill.proofs.Common.{◌≡◌, ◌+◌, ◌<◌, ◌^◌, length, sym, ◌∙◌, subst, Err, Ok, WellFormed, Standing, BeginsDrawing}
 use Rattle.mr_start.specs.Start.{pieces}
 use Rattle.mr_step.specs.Answers.{StartAnswer, fault_of, standing}
-use Rattle.mr_step.specs.Standing.{Standing}
 use Rattle.mr_auto.specs.Answers.{AreAddresses}
-use Rattle.mr_auto.specs.Drawn.{BeginsDrawing}
 use Rattle.mr_auto.proofs.Drawings.{are_addresses, begins_drawing, never_refused, picks_of, start_is, start_there}
 use Rattle.mr_fill.proofs.Fillings.{few_completed, filled_is, legal_is, of_is}
 use Rattle.mr_fill.proofs.filling.fill.Goals as goal

@@ -1,7 +1,5 @@
-use Rattle.std.proofs.Common.{[], get_or, arith}
-use Rattle.std.specs.Prelude.{None}
+use Rattle.mr_fill.proofs.Common.{[], get_or, arith, None, Turn}
 use Rattle.std.proofs.lemmas.List.{drop_all}
-use Rattle.mr_fill.specs.declared.order.Turn.{Turn}
 use Rattle.mr_fill.proofs.FilledSoFar.{so_begins, so_ends, so_halts, so_legal, so_more, turns_left}
 use Rattle.mr_fill.proofs.filling.fill_entries.Goals as goal
 

@@ -1,5 +1,4 @@
-use Rattle.std.proofs.Common.{ℕ, ◌∙◌, sym, length-drop, arith}
-use Rattle.std.specs.Prelude.{◌==◌}
+use Rattle.mr_fill.proofs.Common.{ℕ, ◌∙◌, sym, length-drop, arith, ◌==◌}
 use Rattle.std.proofs.lemmas.List.{take_rest}
 use Rattle.mr_fill.proofs.Parts.{first_part_at, one_part}
 use Rattle.mr_fill.proofs.order.cut.Goals as goal

@@ -1,6 +1,5 @@
-use Rattle.std.proofs.Common.{ℕ, ◌∙◌, sym, length-drop, arith}
+use Rattle.mr_fill.proofs.Common.{ℕ, ◌∙◌, sym, length-drop, arith, is_blank}
 use Rattle.std.proofs.lemmas.List.{take_rest}
-use Rattle.mr_fill.specs.Orders.{is_blank}
 use Rattle.mr_fill.proofs.Parts.{first_part_at, one_part}
 use Rattle.mr_fill.proofs.order.cut_at_blank.Goals as goal
 

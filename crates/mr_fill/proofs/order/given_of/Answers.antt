@@ -1,4 +1,4 @@
-use Rattle.std.proofs.Common.{refl}
+use Rattle.mr_fill.proofs.Common.{refl}
 use Rattle.mr_fill.proofs.OrderLaws.{given_twice}
 use Rattle.mr_fill.proofs.order.given_of.Goals as goal
 

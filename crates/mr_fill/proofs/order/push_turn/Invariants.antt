@@ -1,4 +1,4 @@
-use Rattle.std.proofs.Common.{◌≡◌, ◌+◌, ◌++◌, ◌^◌, ◌≤◌, length}
+use Rattle.mr_fill.proofs.Common.{◌≡◌, ◌+◌, ◌++◌, ◌^◌, ◌≤◌, length}
 use Rattle.std.specs.Prelude.{replicate}
 use Rattle.mr_fill.proofs.order.push_turn.Given as goal
 

@@ -1,6 +1,5 @@
-use Rattle.std.proofs.Common.{ℕ, List, subst, sym}
-use Rattle.mr_sched.specs.Reading.{Gives}
-use Rattle.mr_fill.specs.Orders.{first_part, on_line, order_from, words_in}
+use Rattle.mr_fill.proofs.Common.{ℕ, List, subst, sym, Gives, on_line, order_from, words_in}
+use Rattle.mr_fill.specs.Orders.{first_part}
 use Rattle.mr_fill.proofs.order.read_line.Goals as goal
 
 pub returns-clause-given : goal.returns-clause-given

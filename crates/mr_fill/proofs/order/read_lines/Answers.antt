@@ -1,4 +1,4 @@
-use Rattle.std.proofs.Common.{ap, arith, length, option_copied}
+use Rattle.mr_fill.proofs.Common.{ap, arith, length, option_copied}
 use Rattle.std.proofs.lemmas.Result.{err_from_is_err_and}
 use Rattle.mr_fill.proofs.OrderLaws.{after_small, lines_end, lines_go_on, lines_stop, size_of}
 use Rattle.mr_fill.proofs.order.read_lines.Goals as goal

@@ -1,6 +1,4 @@
-use Rattle.std.proofs.Common.{◌≡◌, ◌+◌, ◌^◌, ◌≤◌, length, option_copied}
-use Rattle.mr_sched.specs.Reading.{parts_after, parts_at}
-use Rattle.mr_fill.specs.Orders.{numbered_words, order_from}
+use Rattle.mr_fill.proofs.Common.{◌≡◌, ◌+◌, ◌^◌, ◌≤◌, length, option_copied, parts_after, parts_at, numbered_words, order_from}
 use Rattle.mr_fill.proofs.OrderLaws.{size_of}
 use Rattle.mr_fill.proofs.order.read_lines.Given as goal
 

@@ -1,4 +1,4 @@
-use Rattle.std.proofs.Common.{ap, option_copied}
+use Rattle.mr_fill.proofs.Common.{ap, option_copied}
 use Rattle.std.proofs.lemmas.Result.{err_from_is_err_and}
 use Rattle.mr_fill.proofs.OrderLaws.{words_end, words_go_on, words_stop}
 use Rattle.mr_fill.proofs.order.read_words.Goals as goal

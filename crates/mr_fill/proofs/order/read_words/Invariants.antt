@@ -1,5 +1,4 @@
-use Rattle.std.proofs.Common.{◌≡◌, ◌^◌, ◌≤◌, length, option_copied}
-use Rattle.mr_fill.specs.Orders.{on_line, order_from, words_in}
+use Rattle.mr_fill.proofs.Common.{◌≡◌, ◌^◌, ◌≤◌, length, option_copied, on_line, order_from, words_in}
 use Rattle.mr_fill.proofs.OrderLaws.{size_of, words_left}
 use Rattle.mr_fill.proofs.order.read_words.Given as goal
 

@@ -1,5 +1,4 @@
-use Rattle.std.proofs.Common.{refl}
-use Rattle.mr_fill.specs.Orders.{turns_of}
+use Rattle.mr_fill.proofs.Common.{refl, turns_of}
 use Rattle.mr_fill.proofs.OrderLaws.{starred_twice}
 use Rattle.mr_fill.proofs.order.turns_of.Goals as goal
 

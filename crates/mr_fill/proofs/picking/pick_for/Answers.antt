@@ -1,5 +1,4 @@
-use Rattle.std.proofs.Common.{sym, subst}
-use Rattle.mr_auto.proofs.Nexts.{weaker}
+use Rattle.mr_fill.proofs.Common.{sym, subst, weaker}
 use Rattle.mr_fill.proofs.GivenLeft.{pick_told}
 use Rattle.mr_fill.proofs.picking.pick_for.Goals as goal
 

@@ -1,4 +1,4 @@
-use Rattle.std.proofs.Common.{drop, get_or, subst, ◌+◌}
+use Rattle.mr_fill.proofs.Common.{drop, get_or, subst, ◌+◌}
 use Rattle.mr_sched.specs.declared.schedule.Ask.TheVariants.{Address}
 use Rattle.mr_auto.proofs.PicksLeft.{left_here}
 use Rattle.mr_fill.proofs.GivenLeft.{GivenSo, given_more, given_none}

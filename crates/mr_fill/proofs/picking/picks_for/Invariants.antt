@@ -1,7 +1,4 @@
-use Rattle.std.proofs.Common.{◌≡◌, drop}
-use Rattle.std.specs.Prelude.{Some}
-use Rattle.mr_step.specs.PlanMachine.{State}
-use Rattle.mr_start.specs.Steps.{Own}
+use Rattle.mr_fill.proofs.Common.{◌≡◌, drop, Some, State, Own}
 use Rattle.mr_fill.proofs.GivenLeft.{GivenSo}
 use Rattle.mr_fill.proofs.picking.picks_for.Given as goal
 

@@ -1,4 +1,4 @@
-use Rattle.std.proofs.Common.{ap, sym, ◌∙◌, Err}
+use Rattle.mr_fill.proofs.Common.{ap, sym, ◌∙◌, Err}
 use Rattle.mr_fill.proofs.TurnLaws.{asked_told, missing_told}
 use Rattle.mr_fill.proofs.turning.asked.Goals as goal
 

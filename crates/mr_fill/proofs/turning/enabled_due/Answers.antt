@@ -1,9 +1,4 @@
-use Rattle.std.proofs.Common.{◌++◌, ap, sym, subst, ◌∙◌, ℕ, Result}
-use Rattle.mr_auto.proofs.Nexts.{weaker}
-use Rattle.mr_auto.specs.Drawing.{Next}
-use Rattle.mr_step.specs.PlanMachine.{needs}
-use Rattle.mr_start.specs.Steps.{thread_step}
-use Rattle.mr_fill.specs.Turning.{TurnAnswer}
+use Rattle.mr_fill.proofs.Common.{◌++◌, ap, sym, subst, ◌∙◌, ℕ, Result, weaker, Next, needs, thread_step, TurnAnswer}
 use Rattle.mr_fill.proofs.TurnLaws.{enabled_told, limit_broken}
 use Rattle.mr_fill.proofs.turning.enabled_due.Goals as goal
 

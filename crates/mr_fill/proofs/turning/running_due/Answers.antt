@@ -1,9 +1,5 @@
-use Rattle.std.proofs.Common.{sym, subst, ◌∙◌, ℕ, Result}
-use Rattle.std.specs.Prelude.{slice_get}
-use Rattle.mr_auto.proofs.Nexts.{weaker}
-use Rattle.mr_auto.specs.Drawing.{Next}
+use Rattle.mr_fill.proofs.Common.{sym, subst, ◌∙◌, ℕ, Result, slice_get, weaker, Next, TurnAnswer}
 use Rattle.mr_step.proofs.EntryLaws.{enabled_is}
-use Rattle.mr_fill.specs.Turning.{TurnAnswer}
 use Rattle.mr_fill.proofs.TurnLaws.{off_told, on_told}
 use Rattle.mr_fill.proofs.turning.running_due.Goals as goal
 

@@ -1,7 +1,4 @@
-use Rattle.std.proofs.Common.{sym, subst, ◌∙◌, ℕ, Result}
-use Rattle.mr_auto.proofs.Nexts.{weaker}
-use Rattle.mr_auto.specs.Drawing.{Next}
-use Rattle.mr_fill.specs.Turning.{TurnAnswer}
+use Rattle.mr_fill.proofs.Common.{sym, subst, ◌∙◌, ℕ, Result, weaker, Next, TurnAnswer}
 use Rattle.mr_fill.proofs.TurnLaws.{running_told}
 use Rattle.mr_fill.proofs.turning.turn_due.Goals as goal
 

@@ -1,9 +1,5 @@
-use Rattle.std.proofs.Common.{List, sym, subst, get_or}
-use Rattle.mr_ast.specs.declared.program.Local.{Local}
-use Rattle.mr_ast.specs.declared.program.LocalName.{LocalName}
-use Rattle.mr_layout.specs.TypeOk.{TypeOk}
+use Rattle.mr_frame.proofs.Common.{List, sym, subst, get_or, Local, LocalName, TypeOk, all_at}
 use Rattle.mr_frame.proofs.AskLaws.{Asking, asking_cut, asking_end, asking_first, asking_next}
-use Rattle.mr_base.proofs.Lists.{all_at}
 use Rattle.mr_frame.proofs.acts.push_asks.Goals as goal
 
 -- what stands for a name that isn't there

@@ -1,4 +1,4 @@
-use Rattle.std.proofs.Common.{drop}
+use Rattle.mr_frame.proofs.Common.{drop}
 use Rattle.mr_frame.proofs.AskLaws.{Asking}
 use Rattle.mr_frame.proofs.acts.push_asks.Given as goal
 

@@ -1,10 +1,5 @@
-use Rattle.std.proofs.Common.{◌+◌, arith, get_or}
-use Rattle.mr_ast.specs.declared.program.Local.{Local}
-use Rattle.mr_ast.specs.declared.program.LocalName.{LocalName}
-use Rattle.mr_layout.specs.TypeOk.{TypeOk}
-use Rattle.mr_eval.specs.World.{world_of}
+use Rattle.mr_frame.proofs.Common.{◌+◌, arith, get_or, Local, LocalName, TypeOk, world_of, all_at}
 use Rattle.mr_frame.proofs.BeginSteps.{allocating_cut, allocating_end, allocating_next, start_can, start_inside, start_next}
-use Rattle.mr_base.proofs.Lists.{all_at}
 use Rattle.mr_frame.proofs.begins.allocate_each.Goals as goal
 
 -- what stands for a name that isn't there

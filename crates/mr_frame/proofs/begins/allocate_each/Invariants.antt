@@ -1,5 +1,4 @@
-use Rattle.std.proofs.Common.{◌+◌, drop}
-use Rattle.mr_eval.specs.World.{world_of}
+use Rattle.mr_frame.proofs.Common.{◌+◌, drop, world_of}
 use Rattle.mr_frame.proofs.BeginSteps.{Allocating}
 use Rattle.mr_frame.proofs.begins.allocate_each.Given as goal
 

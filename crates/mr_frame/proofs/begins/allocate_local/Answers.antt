@@ -1,4 +1,4 @@
-use Rattle.std.proofs.Common.{arith}
+use Rattle.mr_frame.proofs.Common.{arith}
 use Rattle.mr_layout.proofs.Bounds.{type_ok_small}
 use Rattle.mr_frame.proofs.begins.allocate_local.Goals as goal
 

@@ -1,11 +1,4 @@
-use Rattle.std.proofs.Common.{List, None, length, sym, ap, ◌∙◌, drop}
-use Rattle.std.specs.Prelude.{replicate, slice_get}
-use Rattle.mr_base.specs.declared.byte.Pointer.{Pointer}
-use Rattle.mr_eval.specs.World.{world_of}
-use Rattle.mr_frame.specs.Beginning.{stored_each}
-use Rattle.mr_frame.specs.Calls.{behind_first, with_each}
-use Rattle.mr_frame.specs.Effects.{entered}
-use Rattle.mr_frame.specs.Sites.{kept_locals}
+use Rattle.mr_frame.proofs.Common.{List, None, length, sym, ap, ◌∙◌, drop, replicate, slice_get, Pointer, world_of, stored_each, behind_first, with_each, entered, kept_locals}
 use Rattle.mr_frame.proofs.BeginWhole.{args_typed, begins_many, begins_stop, begins_typed, begins_went}
 use Rattle.mr_frame.proofs.ToldLaws.{told_stop}
 use Rattle.mr_frame.proofs.begins.begin.Goals as goal

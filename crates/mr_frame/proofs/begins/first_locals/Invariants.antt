@@ -1,7 +1,4 @@
-use Rattle.std.proofs.Common.{◌≡◌, ◌+◌, drop, length, None}
-use Rattle.std.specs.Prelude.{replicate}
-use Rattle.mr_frame.specs.Calls.{with_each}
-use Rattle.mr_frame.specs.Sites.{kept_locals}
+use Rattle.mr_frame.proofs.Common.{◌≡◌, ◌+◌, drop, length, None, replicate, with_each, kept_locals}
 use Rattle.mr_frame.proofs.begins.first_locals.Given as goal
 
 -- the locals so far, and those that get storage still

@@ -1,5 +1,4 @@
-use Rattle.mr_eval.specs.Answers.{seen}
-use Rattle.mr_eval.specs.World.{world_of}
+use Rattle.mr_frame.proofs.Common.{seen, world_of}
 use Rattle.mr_frame.proofs.ChangeRuns.{store_tells}
 use Rattle.mr_frame.proofs.begins.store.Goals as goal
 

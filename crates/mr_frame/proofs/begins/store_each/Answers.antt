@@ -1,16 +1,6 @@
-use Rattle.std.proofs.Common.{◌≡◌, ◌+◌, drop, get_or, length, sym, ap, ◌∙◌, subst, arith, length-drop, List, None, true}
-use Rattle.mr_ast.specs.declared.program.Local.{Local}
-use Rattle.mr_ast.specs.declared.program.LocalName.{LocalName}
-use Rattle.mr_base.specs.declared.byte.Pointer.{Pointer}
-use Rattle.mr_layout.specs.TypeOk.{TypeOk}
-use Rattle.mr_value.specs.declared.val.Val.{Val}
-use Rattle.mr_value.specs.Shape.{has_shape}
-use Rattle.mr_eval.specs.World.{world_of}
-use Rattle.mr_frame.specs.Beginning.{stored_each}
-use Rattle.mr_frame.specs.Effects.{stored_in}
+use Rattle.mr_frame.proofs.Common.{◌≡◌, ◌+◌, drop, get_or, length, sym, ap, ◌∙◌, subst, arith, length-drop, List, None, true, Local, LocalName, Pointer, TypeOk, Val, has_shape, world_of, stored_each, stored_in, all_at}
 use Rattle.mr_frame.proofs.BeginSteps.{Storing, shape_here, storing_cut, storing_end, storing_first, storing_next, storing_stops}
 use Rattle.mr_frame.proofs.ToldLaws.{told_stop}
-use Rattle.mr_base.proofs.Lists.{all_at}
 use Rattle.mr_frame.proofs.begins.store_each.Goals as goal
 
 -- what stands for a name and a pointer that aren't there

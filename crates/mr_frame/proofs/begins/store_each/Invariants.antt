@@ -1,5 +1,4 @@
-use Rattle.mr_eval.specs.World.{world_of}
-use Rattle.std.proofs.Common.{◌+◌, drop}
+use Rattle.mr_frame.proofs.Common.{world_of, ◌+◌, drop}
 use Rattle.mr_frame.proofs.BeginSteps.{Storing}
 use Rattle.mr_frame.proofs.begins.store_each.Given as goal
 

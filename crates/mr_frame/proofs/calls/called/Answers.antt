@@ -1,9 +1,5 @@
-use Rattle.std.proofs.Common.{◌<◌, ◌∙◌, length, sym, ap, subst}
-use Rattle.std.specs.Prelude.{slice_get}
-use Rattle.mr_ast.specs.declared.program.Program.{Program}
-use Rattle.mr_eval.specs.Environment.{env_surround}
+use Rattle.mr_frame.proofs.Common.{◌<◌, ◌∙◌, length, sym, ap, subst, slice_get, Program, env_surround, callee_of, given_types}
 use Rattle.mr_frame.specs.Calling.{look_in}
-use Rattle.mr_frame.specs.Calls.{callee_of, given_types}
 use Rattle.mr_frame.proofs.BeginSteps.{kept_known}
 use Rattle.mr_frame.proofs.CallLaws.{called_fits, called_other, callee_below, given_known, has_locals}
 use Rattle.mr_frame.proofs.calls.called.Goals as goal

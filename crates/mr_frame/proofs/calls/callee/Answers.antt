@@ -1,7 +1,4 @@
-use Rattle.std.proofs.Common.{None, ap, sym, ◌∙◌, arith}
-use Rattle.std.proofs.lemmas.List.{drop_all}
-use Rattle.mr_base.specs.declared.byte.Pointer.{Pointer}
-use Rattle.mr_frame.specs.Calls.{position_from}
+use Rattle.mr_frame.proofs.Common.{None, ap, sym, ◌∙◌, arith, drop_all, Pointer, position_from}
 use Rattle.mr_frame.proofs.CalleeLaws.{callee_is, here_found, not_here}
 use Rattle.mr_frame.proofs.calls.callee.Goals as goal
 

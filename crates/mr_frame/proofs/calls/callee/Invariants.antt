@@ -1,5 +1,4 @@
-use Rattle.std.proofs.Common.{◌≡◌, drop}
-use Rattle.mr_frame.specs.Calls.{position_from}
+use Rattle.mr_frame.proofs.Common.{◌≡◌, drop, position_from}
 use Rattle.mr_frame.proofs.calls.callee.Given as goal
 
 abbrev pub invariant-loop-number : goal.invariant-loop-number

@@ -1,21 +1,4 @@
-use Rattle.std.proofs.Common.{◌≡◌, Bool, true, Option, Some, subst, sym, ap, ◌∙◌}
-use Rattle.std.specs.Prelude.{if◌then◌else◌}
-use Rattle.mr_ast.specs.declared.expr.Place.{Place}
-use Rattle.mr_ast.specs.declared.expr.Value.{Value}
-use Rattle.mr_ast.specs.declared.types.Ty.{Ty}
-use Rattle.mr_base.specs.declared.byte.Pointer.{Pointer}
-use Rattle.mr_mem.specs.Memory.{Memory}
-use Rattle.mr_value.specs.declared.val.Val.{Val}
-use Rattle.mr_value.specs.Shape.{has_shape}
-use Rattle.mr_base.specs.Script.{Broken, Outcome, Went, on}
-use Rattle.mr_typing.specs.Types.{type_of_place}
-use Rattle.mr_eval.specs.Answers.{seen}
-use Rattle.mr_eval.specs.Environment.{Leaves, env_surround}
-use Rattle.mr_eval.specs.Evaluated.{placed, valued}
-use Rattle.mr_eval.specs.Evaluation.{Surround}
-use Rattle.mr_eval.specs.Reads.{Seen}
-use Rattle.mr_eval.specs.Stores.{stored_typed}
-use Rattle.mr_frame.specs.Effects.{assigned, stored_at}
+use Rattle.mr_frame.proofs.Common.{◌≡◌, Bool, true, Option, Some, subst, sym, ap, ◌∙◌, if◌then◌else◌, Place, Value, Ty, Pointer, Memory, Val, has_shape, Broken, Outcome, Went, on, type_of_place, seen, Leaves, env_surround, placed, valued, Surround, Seen, stored_typed, assigned, stored_at}
 use Rattle.mr_frame.proofs.InsideLaws.{assign_place, assign_shape, assign_value}
 use Rattle.mr_frame.proofs.changes.assign.Goals as goal
 

@@ -1,4 +1,4 @@
-use Rattle.std.proofs.Common.{sym, ◌∙◌}
+use Rattle.mr_frame.proofs.Common.{sym, ◌∙◌}
 use Rattle.mr_frame.proofs.InsideLaws.{disc_tags, tags_fit}
 use Rattle.mr_frame.proofs.changes.set_discriminant.Goals as goal
 

@@ -1,8 +1,6 @@
-use Rattle.std.proofs.Common.{false, ◌∙◌, arith}
+use Rattle.mr_frame.proofs.Common.{false, ◌∙◌, arith, Tag, seen}
 use Rattle.mr_ast.specs.declared.types.IntType.TheVariants.{U8}
-use Rattle.mr_ast.specs.declared.types.Tag.{Tag}
 use Rattle.mr_layout.proofs.Turns.{tag_turn}
-use Rattle.mr_eval.specs.Answers.{seen}
 use Rattle.mr_frame.proofs.TagLaws.{tag_stored}
 use Rattle.mr_frame.proofs.changes.write_tags.Goals as goal
 

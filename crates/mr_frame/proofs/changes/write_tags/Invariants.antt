@@ -1,8 +1,4 @@
-use Rattle.std.proofs.Common.{◌≡◌, ℕ, drop, true}
-use Rattle.mr_ast.specs.declared.types.Ty.{Ty}
-use Rattle.mr_layout.specs.EnumRules.{are_tags}
-use Rattle.mr_eval.specs.Answers.{seen}
-use Rattle.mr_frame.specs.Effects.{tagged}
+use Rattle.mr_frame.proofs.Common.{◌≡◌, ℕ, drop, true, Ty, are_tags, seen, tagged}
 use Rattle.mr_frame.proofs.changes.write_tags.Given as goal
 
 abbrev pub invariant-loop-tag : goal.invariant-loop-tag

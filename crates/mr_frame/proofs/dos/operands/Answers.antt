@@ -1,12 +1,4 @@
-use Rattle.std.proofs.Common.{sym, subst}
-use Rattle.std.specs.Prelude.{option_copied}
-use Rattle.mr_base.specs.Script.{Outcome}
-use Rattle.mr_eval.specs.Answers.{seen}
-use Rattle.mr_eval.specs.Environment.{env_surround}
-use Rattle.mr_eval.specs.Reads.{Seen}
-use Rattle.mr_eval.specs.World.{TellsBy}
-use Rattle.mr_frame.specs.Doing.{operands_of}
-use Rattle.mr_frame.specs.Operations.{Operands}
+use Rattle.mr_frame.proofs.Common.{sym, subst, option_copied, Outcome, seen, env_surround, Seen, TellsBy, operands_of, Operands}
 use Rattle.mr_frame.proofs.DoLaws.{given_known}
 use Rattle.mr_frame.proofs.dos.operands.Goals as goal
 

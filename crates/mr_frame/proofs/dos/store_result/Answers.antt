@@ -1,10 +1,4 @@
-use Rattle.std.proofs.Common.{◌∙◌, sym, subst, Option}
-use Rattle.std.specs.Prelude.{option_copied}
-use Rattle.mr_base.specs.declared.byte.Pointer.{Pointer}
-use Rattle.mr_base.specs.Script.{Outcome}
-use Rattle.mr_eval.specs.Environment.{Tells}
-use Rattle.mr_eval.specs.World.{World, world_of}
-use Rattle.mr_frame.specs.Doing.{FitsResult, result_stored}
+use Rattle.mr_frame.proofs.Common.{◌∙◌, sym, subst, Option, option_copied, Pointer, Outcome, Tells, World, world_of, FitsResult, result_stored}
 use Rattle.mr_frame.proofs.DoLaws.{stored_none, stored_some}
 use Rattle.mr_frame.proofs.dos.store_result.Goals as goal
 

@@ -1,6 +1,4 @@
-use Rattle.std.proofs.Common.{◌+◌, List, Some, drop, sym, ap, ◌∙◌, subst}
-use Rattle.mr_ast.specs.declared.types.Ty.{Ty}
-use Rattle.mr_eval.specs.Environment.{env_surround}
+use Rattle.mr_frame.proofs.Common.{◌+◌, List, Some, drop, sym, ap, ◌∙◌, subst, Ty, env_surround}
 use Rattle.mr_frame.proofs.DoLaws.{Typing, typing_cut, typing_end, typing_first, typing_next}
 use Rattle.mr_frame.proofs.dos.types.Goals as goal
 

@@ -1,5 +1,4 @@
-use Rattle.std.proofs.Common.{drop}
-use Rattle.mr_eval.specs.Environment.{env_surround}
+use Rattle.mr_frame.proofs.Common.{drop, env_surround}
 use Rattle.mr_frame.proofs.DoLaws.{Typing}
 use Rattle.mr_frame.proofs.dos.types.Given as goal
 

@@ -1,7 +1,4 @@
-use Rattle.std.proofs.Common.{None, ◌∙◌, arith, get_or}
-use Rattle.mr_eval.specs.World.{world_of}
-use Rattle.mr_frame.specs.Effects.{unstored}
-use Rattle.mr_frame.specs.Ending.{freed_each}
+use Rattle.mr_frame.proofs.Common.{None, ◌∙◌, arith, get_or, world_of, unstored, freed_each}
 use Rattle.mr_frame.proofs.EndLaws.{found_freed, freed_end, freed_step, freed_stop}
 use Rattle.mr_frame.proofs.ToldLaws.{told_stop}
 use Rattle.mr_frame.proofs.ends.free_each.Goals as goal

@@ -1,6 +1,4 @@
-use Rattle.std.proofs.Common.{◌≡◌, drop}
-use Rattle.mr_eval.specs.World.{world_of}
-use Rattle.mr_frame.specs.Ending.{freed_each}
+use Rattle.mr_frame.proofs.Common.{◌≡◌, drop, world_of, freed_each}
 use Rattle.mr_frame.proofs.ends.free_each.Given as goal
 
 abbrev pub invariant-loop-k : goal.invariant-loop-k

@@ -1,8 +1,6 @@
-use Rattle.std.proofs.Common.{◌+◌, Some, drop, sym, ap, ◌∙◌, arith}
+use Rattle.mr_frame.proofs.Common.{◌+◌, Some, drop, sym, ap, ◌∙◌, arith, LocalName, env_surround}
 use Rattle.std.proofs.lemmas.Option.{slice_get-get_or}
-use Rattle.mr_ast.specs.declared.program.LocalName.{LocalName}
 use Rattle.mr_typing.specs.Known.{ty_of}
-use Rattle.mr_eval.specs.Environment.{env_surround}
 use Rattle.mr_frame.proofs.FittingLaws.{cut_both, cut_last, cut_none, fitting_first, fitting_next, fitting_none, fitting_stops}
 use Rattle.mr_frame.proofs.fitting.are_fitting.Goals as goal
 

@@ -1,5 +1,4 @@
-use Rattle.std.proofs.Common.{◌≤◌, drop, length}
-use Rattle.mr_eval.specs.Environment.{env_surround}
+use Rattle.mr_frame.proofs.Common.{◌≤◌, drop, length, env_surround}
 use Rattle.mr_frame.proofs.FittingLaws.{Fitting}
 use Rattle.mr_frame.proofs.fitting.are_fitting.Given as goal
 

@@ -1,5 +1,4 @@
-use Rattle.std.proofs.Common.{◌≡◌, drop}
-use Rattle.mr_frame.specs.Switches.{first_case}
+use Rattle.mr_frame.proofs.Common.{◌≡◌, drop, first_case}
 use Rattle.mr_frame.proofs.switches.block_for.Given as goal
 
 abbrev pub invariant-loop-case : goal.invariant-loop-case

@@ -1,5 +1,4 @@
-use Rattle.mr_eval.specs.Answers.{seen}
-use Rattle.mr_eval.specs.Environment.{env_surround}
+use Rattle.mr_frame.proofs.Common.{seen, env_surround}
 use Rattle.mr_frame.proofs.PointedLaws.{pointed_known, pointer_found}
 use Rattle.mr_frame.proofs.values.pointer.Goals as goal
 

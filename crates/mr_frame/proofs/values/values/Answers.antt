@@ -1,11 +1,7 @@
-use Rattle.std.proofs.Common.{◌+◌, refl, ap, sym, ◌∙◌, drop, arith}
-use Rattle.mr_eval.specs.Answers.{seen}
-use Rattle.mr_eval.specs.Environment.{env_surround}
-use Rattle.mr_eval.specs.Evaluated.{each_valued}
+use Rattle.mr_frame.proofs.Common.{◌+◌, refl, ap, sym, ◌∙◌, drop, arith, seen, env_surround, each_valued, on_itself}
 use Rattle.mr_eval.proofs.ExtendsLaws.{extends_same, extends_then}
 use Rattle.mr_eval.proofs.RowRuns.{behind_row, row_end, row_next}
 use Rattle.mr_frame.proofs.ToldLaws.{row_told}
-use Rattle.mr_plan.proofs.SafetyLaws.{on_itself}
 use Rattle.mr_frame.proofs.values.values.Goals as goal
 
 pub loop-arg-init : goal.loop-arg-init

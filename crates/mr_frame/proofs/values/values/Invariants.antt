@@ -1,8 +1,5 @@
-use Rattle.std.proofs.Common.{◌≡◌, ◌++◌, drop}
-use Rattle.mr_base.specs.Script.{Went, on}
-use Rattle.mr_eval.specs.Answers.{Extends, seen}
-use Rattle.mr_eval.specs.Environment.{env_surround}
-use Rattle.mr_eval.specs.Evaluated.{each_valued}
+use Rattle.mr_frame.proofs.Common.{◌≡◌, ◌++◌, drop, Went, on, seen, env_surround, each_valued}
+use Rattle.mr_eval.specs.Answers.{Extends}
 use Rattle.mr_frame.proofs.values.values.Given as goal
 
 -- the values so far, and those that are left

@@ -1,6 +1,5 @@
-use Rattle.std.proofs.Common.{◌≡◌, rules}
-use Rattle.mr_ast.specs.declared.program.Program.{Program}
-use Rattle.mr_gen.specs.Generated.{generated}
+use Rattle.mr_gen.proofs.Common.{◌≡◌, Program, generated}
+use Rattle.std.proofs.Common.{rules}
 use Rattle.mr_gen.proofs.GeneratedLaws.{well_formed_equal}
 use Rattle.mr_gen.proofs.building.program.Goals as goal
 

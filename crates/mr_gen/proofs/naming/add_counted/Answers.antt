@@ -1,7 +1,6 @@
-use Rattle.std.proofs.Common.{ℕ, ◌++◌, length, decimal, ap, ◌∙◌, arith}
-use Rattle.mr_ast.specs.Scope.{with_text}
-use Rattle.mr_gen.proofs.Growing.{folded_next}
+use Rattle.mr_gen.proofs.Common.{ℕ, ◌++◌, length, decimal, ap, ◌∙◌, arith, with_text}
 use Rattle.mr_ast.proofs.TextsLaws.{length-with_text}
+use Rattle.mr_gen.proofs.Growing.{folded_next}
 use Rattle.mr_gen.proofs.naming.add_counted.Goals as goal
 
 pub loop-k-preserved : goal.loop-k-preserved

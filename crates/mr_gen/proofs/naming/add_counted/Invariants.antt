@@ -1,7 +1,4 @@
-use Rattle.std.proofs.Common.{◌≡◌, ◌≤◌, ◌+◌, ◌-◌, length}
-use Rattle.std.specs.List.{fold}
-use Rattle.mr_ast.specs.Scope.{with_text}
-use Rattle.mr_gen.specs.Generated.{counted_texts}
+use Rattle.mr_gen.proofs.Common.{◌≡◌, ◌≤◌, ◌+◌, ◌-◌, length, fold, with_text, counted_texts}
 use Rattle.mr_gen.proofs.naming.add_counted.Given as goal
 
 -- the names before this one were added, and each is at most one more

@@ -1,6 +1,5 @@
-use Rattle.std.proofs.Common.{◌≡◌, ◌≤◌, ◌+◌, length, map, take}
-use Rattle.std.specs.List.{fold}
-use Rattle.mr_ast.specs.Scope.{with_text}
+use Rattle.mr_gen.proofs.Common.{◌≡◌, ◌≤◌, ◌+◌, length, map, fold, with_text}
+use Rattle.std.proofs.Common.{take}
 use Rattle.mr_gen.proofs.naming.add_each.Given as goal
 
 -- the names before this one were added, and each is at most one more

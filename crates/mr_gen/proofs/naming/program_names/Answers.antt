@@ -1,8 +1,5 @@
-use Rattle.std.proofs.Common.{◌+◌, codes, ap, ◌∙◌}
-use Rattle.std.specs.List.{fold}
-use Rattle.mr_ast.specs.Scope.{with_text}
+use Rattle.mr_gen.proofs.Common.{◌+◌, codes, ap, ◌∙◌, fold, with_text, counted_texts, first_texts}
 use Rattle.mr_ast.specs.Words.{Texts}
-use Rattle.mr_gen.specs.Generated.{counted_texts, first_texts}
 use Rattle.mr_gen.proofs.NameLaws.{names_added}
 use Rattle.mr_gen.proofs.naming.program_names.Goals as goal
 

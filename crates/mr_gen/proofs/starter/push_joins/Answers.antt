@@ -1,5 +1,4 @@
-use Rattle.std.proofs.Common.{◌∙◌}
-use Rattle.mr_gen.specs.Generated.{join_block}
+use Rattle.mr_gen.proofs.Common.{◌∙◌, join_block}
 use Rattle.mr_gen.proofs.Growing.{pushed_next}
 use Rattle.mr_gen.proofs.starter.push_joins.Goals as goal
 

@@ -1,6 +1,4 @@
-use Rattle.std.proofs.Common.{◌≡◌, ◌-◌, ◌++◌, map}
-use Rattle.std.specs.List.{range_with_len}
-use Rattle.mr_gen.specs.Generated.{join_block}
+use Rattle.mr_gen.proofs.Common.{◌≡◌, ◌-◌, ◌++◌, map, range_with_len, join_block}
 use Rattle.mr_gen.proofs.starter.push_joins.Given as goal
 
 -- the workers before this one have their blocks

@@ -1,5 +1,4 @@
-use Rattle.std.proofs.Common.{◌∙◌}
-use Rattle.mr_gen.specs.Generated.{spawn_block}
+use Rattle.mr_gen.proofs.Common.{◌∙◌, spawn_block}
 use Rattle.mr_gen.proofs.Growing.{pushed_next}
 use Rattle.mr_gen.proofs.starter.push_spawns.Goals as goal
 

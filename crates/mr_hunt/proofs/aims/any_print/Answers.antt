@@ -1,11 +1,8 @@
-use Rattle.std.proofs.Common.{◌≡◌, ℕ, ◌≤◌, ◌<◌, ◌∙◌, Bool, false, true, [], ap, ap₂, arith, get_or, length, List, subst, sym, take}
+use Rattle.mr_hunt.proofs.Common.{◌≡◌, ℕ, ◌≤◌, ◌<◌, ◌∙◌, Bool, false, true, [], ap, ap₂, arith, get_or, length, List, subst, sym, take, ◌||◌, list_any, Printed, is_print}
 use Rattle.std.proofs.lemmas.List.{take_all}
 use Rattle.std.proofs.lemmas.List.Folds.{list_any_at, list_any_more}
 use Rattle.std.proofs.lemmas.Option.{slice_get-get_or}
-use Rattle.std.specs.Prelude.{◌||◌}
-use Rattle.std.specs.List.{list_any}
-use Rattle.mr_step.specs.PlanRuns.{Printed}
-use Rattle.mr_hunt.specs.Aims.{is_print, is_print_in}
+use Rattle.mr_hunt.specs.Aims.{is_print_in}
 use Rattle.mr_hunt.proofs.aims.any_print.Goals as goal
 
 -- what stands for a print that isn't there

@@ -1,6 +1,4 @@
-use Rattle.std.specs.Prelude.{◌≡◌, false, take}
-use Rattle.std.specs.List.{list_any}
-use Rattle.mr_hunt.specs.Aims.{is_print}
+use Rattle.mr_hunt.proofs.Common.{◌≡◌, false, take, list_any, is_print}
 use Rattle.mr_hunt.proofs.aims.any_print.Given as goal
 
 -- none before this one is

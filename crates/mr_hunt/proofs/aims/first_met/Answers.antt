@@ -1,6 +1,4 @@
-use Rattle.std.proofs.Common.{◌≤◌, arith, ◌∙◌, sym}
-use Rattle.std.specs.Prelude.{None, Some}
-use Rattle.mr_hunt.specs.Aims.{aim_of, is_met}
+use Rattle.mr_hunt.proofs.Common.{◌≤◌, arith, ◌∙◌, sym, None, Some, aim_of, is_met}
 use Rattle.mr_hunt.proofs.AimLaws.{first_found, none_next}
 use Rattle.mr_hunt.proofs.aims.first_met.Goals as goal
 

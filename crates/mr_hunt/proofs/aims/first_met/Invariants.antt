@@ -1,4 +1,4 @@
-use Rattle.mr_hunt.specs.Aims.{aim_of, is_met}
+use Rattle.mr_hunt.proofs.Common.{aim_of, is_met}
 use Rattle.mr_hunt.proofs.AimLaws.{NoneBefore}
 use Rattle.mr_hunt.proofs.aims.first_met.Given as goal
 

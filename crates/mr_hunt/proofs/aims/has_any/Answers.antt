@@ -1,6 +1,4 @@
-use Rattle.std.proofs.Common.{◌∙◌, length}
-use Rattle.std.specs.Prelude.{◌==◌, ◌||◌, not}
-use Rattle.mr_hunt.specs.Ends.{verdict_number}
+use Rattle.mr_hunt.proofs.Common.{◌∙◌, length, ◌==◌, ◌||◌, not, verdict_number}
 use Rattle.mr_hunt.proofs.SeenLaws.{races_are, verdict_is}
 use Rattle.mr_hunt.proofs.aims.has_any.Goals as goal
 

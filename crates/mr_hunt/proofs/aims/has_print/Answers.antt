@@ -1,6 +1,4 @@
-use Rattle.std.proofs.Common.{◌∙◌, ap}
-use Rattle.std.specs.List.{list_any}
-use Rattle.mr_hunt.specs.Aims.{is_print}
+use Rattle.mr_hunt.proofs.Common.{◌∙◌, ap, list_any, is_print}
 use Rattle.mr_hunt.proofs.SeenLaws.{output_is}
 use Rattle.mr_hunt.proofs.aims.has_print.Goals as goal
 

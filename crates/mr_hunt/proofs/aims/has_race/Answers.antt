@@ -1,6 +1,4 @@
-use Rattle.std.proofs.Common.{◌∙◌, ap, length, List}
-use Rattle.std.specs.Prelude.{◌==◌, not}
-use Rattle.mr_event.specs.declared.footprint.Pair.{Pair}
+use Rattle.mr_hunt.proofs.Common.{◌∙◌, ap, length, List, ◌==◌, not, Pair}
 use Rattle.mr_hunt.proofs.SeenLaws.{races_are}
 use Rattle.mr_hunt.proofs.aims.has_race.Goals as goal
 

@@ -1,10 +1,5 @@
-use Rattle.std.proofs.Common.{◌≡◌, ◌∙◌, ap, length, List}
-use Rattle.std.specs.Prelude.{◌==◌, not}
+use Rattle.mr_hunt.proofs.Common.{◌≡◌, ◌∙◌, ap, length, List, ◌==◌, not, Pair, Schedule, steps_of, drawn_schedule}
 use Rattle.mr_event.specs.Footprint.{Footprint}
-use Rattle.mr_event.specs.declared.footprint.Pair.{Pair}
-use Rattle.mr_sched.specs.declared.schedule.Schedule.{Schedule}
-use Rattle.mr_auto.specs.StartRuns.{steps_of}
-use Rattle.mr_auto.specs.Drawing.{drawn_schedule}
 use Rattle.mr_rust_order.specs.Tests.{rust_races}
 use Rattle.mr_hunt.proofs.aims.has_rust_race.Goals as goal
 

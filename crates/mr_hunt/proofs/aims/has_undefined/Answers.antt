@@ -1,4 +1,4 @@
-use Rattle.std.proofs.Common.{◌∙◌, ap}
+use Rattle.mr_hunt.proofs.Common.{◌∙◌, ap}
 use Rattle.mr_hunt.specs.Aims.{is_undefined}
 use Rattle.mr_hunt.proofs.aims.has_undefined.Goals as goal
 

@@ -1,4 +1,4 @@
-use Rattle.std.proofs.lemmas.Result.{IfOk-weaker}
+use Rattle.mr_hunt.proofs.Common.{IfOk-weaker}
 use Rattle.mr_hunt.proofs.aims.is_met.Goals as goal
 
 pub returns-in-Any : goal.returns-in-Any

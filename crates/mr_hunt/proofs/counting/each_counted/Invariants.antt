@@ -1,5 +1,4 @@
-use Rattle.std.specs.Prelude.{◌≡◌, map, take}
-use Rattle.mr_hunt.specs.Table.{counted}
+use Rattle.mr_hunt.proofs.Common.{◌≡◌, map, take, counted}
 use Rattle.mr_hunt.proofs.counting.each_counted.Given as goal
 
 -- the rows before this one are counted

@@ -1,5 +1,4 @@
-use Rattle.std.specs.Prelude.{◌≡◌, false, take}
-use Rattle.mr_hunt.specs.Table.{is_listed}
+use Rattle.mr_hunt.proofs.Common.{◌≡◌, false, take, is_listed}
 use Rattle.mr_hunt.proofs.counting.is_listed.Given as goal
 
 -- none before this one is of its kind

@@ -1,4 +1,4 @@
-use Rattle.std.proofs.Common.{◌∙◌}
+use Rattle.mr_hunt.proofs.Common.{◌∙◌}
 use Rattle.mr_hunt.proofs.TableLaws.{once_more}
 use Rattle.mr_hunt.proofs.counting.once.Goals as goal
 

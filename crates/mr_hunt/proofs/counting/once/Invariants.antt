@@ -1,5 +1,4 @@
-use Rattle.std.specs.Prelude.{◌≡◌, take}
-use Rattle.mr_hunt.specs.Table.{once}
+use Rattle.mr_hunt.proofs.Common.{◌≡◌, take, once}
 use Rattle.mr_hunt.proofs.counting.once.Given as goal
 
 -- of the ends before this one each kind stands there once

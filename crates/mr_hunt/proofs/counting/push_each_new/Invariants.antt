@@ -1,5 +1,4 @@
-use Rattle.std.specs.Prelude.{◌≡◌, ◌++◌, flat_map, take}
-use Rattle.mr_hunt.specs.Table.{new_row}
+use Rattle.mr_hunt.proofs.Common.{◌≡◌, ◌++◌, flat_map, take, new_row}
 use Rattle.mr_hunt.proofs.counting.push_each_new.Given as goal
 
 -- the ends before this one have their rows

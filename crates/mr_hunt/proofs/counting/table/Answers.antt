@@ -1,9 +1,4 @@
-use Rattle.std.proofs.Common.{◌<◌, ◌≡◌, ◌+◌, ◌-◌, ◌^◌, ◌∙◌, ap, arith, List, subst, sym}
-use Rattle.std.specs.Prelude.{All}
-use Rattle.std.specs.List.{range_with_len}
-use Rattle.mr_hunt.specs.declared.counting.Row.{Row}
-use Rattle.mr_hunt.specs.Ends.{ends_of}
-use Rattle.mr_hunt.specs.Table.{IsTable, joined, table_of}
+use Rattle.mr_hunt.proofs.Common.{◌<◌, ◌≡◌, ◌+◌, ◌-◌, ◌^◌, ◌∙◌, ap, arith, List, subst, sym, All, range_with_len, Row, ends_of, IsTable, joined, table_of}
 use Rattle.mr_hunt.proofs.TableLaws.{few_counted, says, table_next}
 use Rattle.mr_hunt.proofs.counting.table.Goals as goal
 

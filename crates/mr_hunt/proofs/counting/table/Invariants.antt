@@ -1,7 +1,4 @@
-use Rattle.std.specs.Prelude.{◌≡◌}
-use Rattle.std.specs.List.{range_with_len}
-use Rattle.mr_hunt.specs.Ends.{ends_of}
-use Rattle.mr_hunt.specs.Table.{table_of}
+use Rattle.mr_hunt.proofs.Common.{◌≡◌, range_with_len, ends_of, table_of}
 use Rattle.mr_hunt.proofs.counting.table.Given as goal
 
 -- it is the table of the numbers before this one

@@ -1,6 +1,4 @@
-use Rattle.std.specs.Prelude.{◌≡◌, false, take}
-use Rattle.std.specs.List.{list_any}
-use Rattle.mr_hunt.specs.Ends.{same_end}
+use Rattle.mr_hunt.proofs.Common.{◌≡◌, false, take, list_any, same_end}
 use Rattle.mr_hunt.proofs.ends.shows.Given as goal
 
 -- none before this one is of its kind

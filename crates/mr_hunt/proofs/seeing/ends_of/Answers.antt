@@ -1,9 +1,5 @@
-use Rattle.std.proofs.Common.{◌≤◌, ◌^◌, ◌∙◌, ◌++◌, ◌∷◌, [], arith, ap, length, List, map, subst, sym}
-use Rattle.mr_sched.specs.declared.schedule.Schedule.{Schedule}
-use Rattle.mr_hunt.specs.declared.ends.End.{End}
+use Rattle.mr_hunt.proofs.Common.{◌≤◌, ◌^◌, ◌∙◌, ◌++◌, ◌∷◌, [], arith, ap, length, List, map, subst, sym, Schedule, End, stands_of, race_at}
 use Rattle.mr_hunt.specs.declared.ends.End.TheVariants as shown
-use Rattle.mr_replay.specs.Stands.{stands_of}
-use Rattle.mr_hunt.specs.Ends.{race_at}
 use Rattle.mr_hunt.proofs.RunFaults.{drawn_few}
 use Rattle.mr_hunt.proofs.SeenLaws.{ends_are}
 use Rattle.mr_hunt.proofs.seeing.ends_of.Goals as goal

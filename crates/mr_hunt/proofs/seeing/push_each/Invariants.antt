@@ -1,5 +1,4 @@
-use Rattle.std.specs.Prelude.{◌≡◌, ◌++◌, map, take}
-use Rattle.mr_hunt.specs.Ends.{race_at}
+use Rattle.mr_hunt.proofs.Common.{◌≡◌, ◌++◌, map, take, race_at}
 use Rattle.mr_hunt.proofs.seeing.push_each.Given as goal
 
 -- the races before this one stand there

@@ -1,4 +1,4 @@
-use Rattle.std.proofs.Common.{ℕ, List, [], ◌∷◌, ◌++◌, ◌∙◌, ap, ap₂}
+use Rattle.mr_hunt.proofs.Common.{ℕ, List, [], ◌∷◌, ◌++◌, ◌∙◌, ap, ap₂}
 use Rattle.std.specs.Prelude.{decimal}
 use Rattle.mr_hunt.proofs.texts.command_line.Goals as goal
 

@@ -1,11 +1,5 @@
-use Rattle.std.proofs.Common.{◌≡◌, ℕ, ◌≤◌, ◌^◌, ◌∙◌, List, arith, ap, ap₂, length, subst, sym}
-use Rattle.std.proofs.lemmas.Result.{IfOk-weaker}
+use Rattle.mr_hunt.proofs.Common.{◌≡◌, ℕ, ◌≤◌, ◌^◌, ◌∙◌, List, arith, ap, ap₂, length, subst, sym, IfOk-weaker, Schedule, drawn_schedule, steps_of, aim_of, stands_of}
 use Rattle.mr_base.specs.declared.reason.Verdict.{Verdict}
-use Rattle.mr_sched.specs.declared.schedule.Schedule.{Schedule}
-use Rattle.mr_auto.specs.Drawing.{drawn_schedule}
-use Rattle.mr_auto.specs.StartRuns.{steps_of}
-use Rattle.mr_hunt.specs.Aims.{aim_of}
-use Rattle.mr_replay.specs.Stands.{stands_of}
 use Rattle.mr_hunt.specs.Texts.{both_races, run_races, told_text}
 use Rattle.mr_hunt.proofs.RunFaults.{drawn_few}
 use Rattle.mr_hunt.proofs.SeenLaws.{races_are, verdict_is}

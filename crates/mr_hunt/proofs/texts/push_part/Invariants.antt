@@ -1,4 +1,4 @@
-use Rattle.std.specs.Prelude.{◌≡◌, ◌++◌, flat_map, take}
+use Rattle.mr_hunt.proofs.Common.{◌≡◌, ◌++◌, flat_map, take}
 use Rattle.mr_listing.specs.Seen.{seen}
 use Rattle.mr_hunt.specs.Texts.{line_in}
 use Rattle.mr_hunt.proofs.texts.push_part.Given as goal

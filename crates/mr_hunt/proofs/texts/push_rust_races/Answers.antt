@@ -1,6 +1,5 @@
-use Rattle.std.proofs.Common.{ℕ, List, [], ◌∷◌, ◌++◌, ◌∙◌, ap, ap₂, append_assoc}
-use Rattle.std.specs.Prelude.{codes}
-use Rattle.mr_event.specs.declared.footprint.Pair.{Pair}
+use Rattle.mr_hunt.proofs.Common.{ℕ, List, [], ◌∷◌, ◌++◌, ◌∙◌, ap, ap₂, codes, Pair}
+use Rattle.std.proofs.Common.{append_assoc}
 use Rattle.mr_rust_order.specs.Tests.{rust_races}
 use Rattle.mr_hunt.specs.Texts.{by_places}
 use Rattle.mr_hunt.proofs.texts.push_rust_races.Goals as goal

@@ -1,5 +1,4 @@
-use Rattle.std.proofs.Common.{◌≡◌, ◌∙◌, [], ap}
-use Rattle.std.proofs.lemmas.Result.{IfOk-weaker}
+use Rattle.mr_hunt.proofs.Common.{◌≡◌, ◌∙◌, [], ap, IfOk-weaker}
 use Rattle.mr_base.specs.declared.reason.Verdict.TheVariants.{Running}
 use Rattle.mr_listing.specs.Seen.{Seen}
 use Rattle.mr_hunt.specs.Texts.{seen_with, table_text}

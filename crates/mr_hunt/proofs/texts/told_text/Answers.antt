@@ -1,5 +1,4 @@
-use Rattle.std.proofs.Common.{ℕ, List, ◌++◌, ◌∙◌, ap, ap₂}
-use Rattle.std.specs.Prelude.{codes}
+use Rattle.mr_hunt.proofs.Common.{ℕ, List, ◌++◌, ◌∙◌, ap, ap₂, codes}
 use Rattle.mr_listing.specs.ReportReport.{line, verdict_text}
 use Rattle.mr_hunt.proofs.texts.told_text.Goals as goal
 

@@ -1,6 +1,4 @@
-use Rattle.std.proofs.Common.{List, ap, sym, ◌∙◌}
-use Rattle.std.specs.Prelude.{slice_get}
-use Rattle.mr_value.specs.declared.val.Val.{Val}
+use Rattle.mr_intr.proofs.Common.{List, ap, sym, ◌∙◌, slice_get, Val}
 use Rattle.mr_intr.proofs.Arguments.{allocate_takes}
 use Rattle.mr_intr.proofs.NeedLaws.{allocation_asks, allocation_stops}
 use Rattle.mr_intr.proofs.asks.allocation_needs.Goals as goal

@@ -1,4 +1,5 @@
-use Rattle.std.proofs.Common.{arith, below_more, sym, ◌∙◌}
+use Rattle.mr_intr.proofs.Common.{arith, sym, ◌∙◌}
+use Rattle.std.proofs.Common.{below_more}
 use Rattle.mr_sync.proofs.Waiters.{none_waiting, waiter_counts}
 use Rattle.mr_intr.proofs.asks.any_waits.Goals as goal
 

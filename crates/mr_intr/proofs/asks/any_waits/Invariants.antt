@@ -1,5 +1,4 @@
-use Rattle.std.proofs.Common.{◌≡◌, ℕ, ◌<◌, false, length}
-use Rattle.mr_sync.specs.Tables.{waits}
+use Rattle.mr_intr.proofs.Common.{◌≡◌, ℕ, ◌<◌, false, length, waits}
 use Rattle.mr_intr.proofs.asks.any_waits.Given as goal
 
 -- no thread so far waits for the lock

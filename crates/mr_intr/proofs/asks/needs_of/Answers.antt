@@ -1,10 +1,5 @@
-use Rattle.std.proofs.Common.{None, subst, sym}
-use Rattle.mr_ast.specs.declared.program.Intrinsic.{Intrinsic}
-use Rattle.mr_base.specs.Script.{run}
-use Rattle.mr_plan.specs.Queries.{answer}
-use Rattle.mr_intr.specs.Effects.{Fits, shared_of}
+use Rattle.mr_intr.proofs.Common.{None, subst, sym, Intrinsic, run, answer, Fits, shared_of, operation}
 use Rattle.mr_intr.specs.Needs.{IsPlanned}
-use Rattle.mr_intr.specs.Operations.{operation}
 use Rattle.mr_intr.specs.declared.need.Creation.TheVariants.{Lock}
 use Rattle.mr_intr.proofs.NeedLaws.{needs_lock, needs_nothing}
 use Rattle.mr_intr.proofs.asks.needs_of.Goals as goal

@@ -1,7 +1,5 @@
-use Rattle.std.proofs.Common.{List, Bool, Ok, ap, sym, ◌∙◌}
+use Rattle.mr_intr.proofs.Common.{List, Bool, Ok, ap, sym, ◌∙◌, slice_get, Val}
 use Rattle.std.proofs.lemmas.Result.{err_from_is_err_and}
-use Rattle.std.specs.Prelude.{slice_get}
-use Rattle.mr_value.specs.declared.val.Val.{Val}
 use Rattle.mr_intr.proofs.Arguments.{release_takes}
 use Rattle.mr_intr.proofs.NeedLaws.{release_asks, release_asks_nothing, release_stops}
 use Rattle.mr_intr.proofs.asks.release_needs.Goals as goal

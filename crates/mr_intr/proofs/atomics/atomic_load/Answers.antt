@@ -1,9 +1,5 @@
-use Rattle.std.proofs.Common.{List, ap, refl}
-use Rattle.std.specs.Prelude.{option_copied, slice_get}
-use Rattle.mr_value.specs.declared.val.Val.{Val}
+use Rattle.mr_intr.proofs.Common.{List, ap, refl, option_copied, slice_get, Val, seen, begun}
 use Rattle.mr_ast.specs.declared.program.Intrinsic.TheVariants as intrinsic
-use Rattle.mr_eval.specs.Answers.{seen}
-use Rattle.mr_intr.specs.Effects.{begun}
 use Rattle.mr_intr.proofs.AtomicRuns.{does_handed, load_fault, load_read, load_went, place_value}
 use Rattle.mr_intr.proofs.OperatedLaws.{done_as, fault_as}
 use Rattle.mr_intr.proofs.Arguments.{atomic_load_takes}

@@ -1,28 +1,17 @@
-use Rattle.std.proofs.Common.{◌≡◌, ℕ, List, None, Err, true, length, get_or, arith, ap, refl, subst, sym, take, ◌∙◌}
-use Rattle.std.specs.Prelude.{IsTrue, slice_get}
-use Rattle.mr_value.specs.declared.val.Val.{Val}
-use Rattle.mr_ast.specs.declared.program.Intrinsic.TheVariants as intrinsic
-use Rattle.mr_ast.specs.declared.types.Ty.{Ty}
-use Rattle.mr_ast.specs.declared.types.Ty.TheVariants as ty
-use Rattle.mr_base.specs.declared.byte.AbstractByte.{AbstractByte}
-use Rattle.mr_layout.specs.Sizes.{align_of}
+use Rattle.mr_intr.proofs.Common.{◌≡◌, ℕ, List, None, Err, true, length, get_or, arith, ap, refl, subst, sym, take, ◌∙◌, slice_get, Val, Ty, AbstractByte, align_of, Went, encoding_of, has_shape, seen, Write, world_of, begun}
+use Rattle.std.specs.Prelude.{IsTrue}
 use Rattle.mr_layout.specs.TypeOk.{TypeOk}
 use Rattle.mr_runs.specs.Numbers.{with_provenance}
-use Rattle.mr_base.specs.Script.{Went}
-use Rattle.mr_value.specs.declared.val.Val.TheVariants as val
 use Rattle.mr_value.specs.Decode.{is_scalar, is_scalar_layer}
-use Rattle.mr_value.specs.Encode.{encoding_of}
-use Rattle.mr_value.specs.Shape.{has_shape}
-use Rattle.mr_eval.specs.Answers.{seen}
 use Rattle.mr_eval.specs.Environment.{Leaves}
-use Rattle.mr_eval.specs.MemoryQueries.{Write}
 use Rattle.mr_eval.specs.Stores.{storing}
-use Rattle.mr_eval.specs.World.{world_of}
-use Rattle.mr_intr.specs.Effects.{begun}
+use Rattle.mr_layout.proofs.BrokenLaws.{int_ok}
+use Rattle.mr_ast.specs.declared.program.Intrinsic.TheVariants as intrinsic
+use Rattle.mr_ast.specs.declared.types.Ty.TheVariants as ty
+use Rattle.mr_value.specs.declared.val.Val.TheVariants as val
 use Rattle.mr_intr.proofs.Arguments.{atomic_store_takes}
 use Rattle.mr_intr.proofs.AtomicRuns.{does_handed, store_read, write_fault, write_went}
 use Rattle.mr_intr.proofs.OperatedLaws.{done_as, fault_as, memory_fault, memory_went}
-use Rattle.mr_layout.proofs.BrokenLaws.{int_ok}
 use Rattle.mr_intr.proofs.atomics.atomic_store.Goals as goal
 
 pub pointer_at-p-requires : goal.pointer_at-p-requires

@@ -1,12 +1,6 @@
-use Rattle.std.proofs.Common.{List, Some, ap, refl}
-use Rattle.std.specs.Prelude.{option_copied, slice_get}
-use Rattle.mr_value.specs.declared.val.Val.{Val}
-use Rattle.mr_ast.specs.Integers.{int_size}
+use Rattle.mr_intr.proofs.Common.{List, Some, ap, refl, option_copied, slice_get, Val, int_size, Modify, begun, exchanged}
 use Rattle.mr_ast.specs.declared.program.Intrinsic.TheVariants as intrinsic
 use Rattle.mr_value.specs.declared.val.Val.TheVariants as val
-use Rattle.mr_eval.specs.MemoryQueries.{Modify}
-use Rattle.mr_intr.specs.Effects.{begun}
-use Rattle.mr_intr.specs.Operations.{exchanged}
 use Rattle.mr_intr.proofs.AtomicRuns.{does_handed, exchange_read, new_small, place_value}
 use Rattle.mr_intr.proofs.OperatedLaws.{done_as, fault_as, memory_fault, memory_went}
 use Rattle.mr_intr.proofs.Arguments.{exchange_takes, wide_int}

@@ -1,7 +1,4 @@
-use Rattle.mr_ast.specs.Integers.{int_size}
-use Rattle.mr_eval.specs.Answers.{seen}
-use Rattle.mr_eval.specs.World.{tally_of}
-use Rattle.mr_intr.specs.Operations.{exchanged}
+use Rattle.mr_intr.proofs.Common.{int_size, seen, tally_of, exchanged}
 use Rattle.mr_intr.proofs.AtomicRuns.{exchange_made, handed_on, modify_fault, modify_unstored}
 use Rattle.mr_intr.proofs.atomics.exchange.Goals as goal
 

@@ -1,11 +1,5 @@
-use Rattle.std.proofs.Common.{List, Some, ap}
-use Rattle.std.specs.Prelude.{option_copied, slice_get}
-use Rattle.mr_value.specs.declared.val.Val.{Val}
-use Rattle.mr_ast.specs.Integers.{int_size}
+use Rattle.mr_intr.proofs.Common.{List, Some, ap, option_copied, slice_get, Val, int_size, Modify, begun, fetched}
 use Rattle.mr_value.specs.declared.val.Val.TheVariants as val
-use Rattle.mr_eval.specs.MemoryQueries.{Modify}
-use Rattle.mr_intr.specs.Effects.{begun}
-use Rattle.mr_intr.specs.Operations.{fetched}
 use Rattle.mr_intr.proofs.AtomicRuns.{does_handed, by_small, fetch_prints, fetch_read, place_value}
 use Rattle.mr_intr.proofs.OperatedLaws.{done_as, fault_as, memory_fault, memory_went}
 use Rattle.mr_intr.proofs.Arguments.{fetch_takes, wide_int}

@@ -1,4 +1,4 @@
-use Rattle.std.proofs.Common.{refl}
+use Rattle.mr_intr.proofs.Common.{refl}
 use Rattle.mr_eval.specs.declared.arithmetic.ArithOp.TheVariants.{Add, And, Or, Sub, Xor}
 use Rattle.mr_intr.proofs.AtomicLaws.{computed_small}
 use Rattle.mr_intr.proofs.atomics.fetched.Goals as goal

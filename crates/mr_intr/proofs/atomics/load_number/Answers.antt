@@ -1,10 +1,6 @@
-use Rattle.std.proofs.Common.{◌≡◌, ℕ, Some, Result, ap, sym, ◌∙◌}
-use Rattle.mr_base.specs.Stops.{reached_by}
-use Rattle.mr_mem.specs.Memory.{read}
+use Rattle.mr_intr.proofs.Common.{◌≡◌, ℕ, Some, Result, ap, sym, ◌∙◌, reached_by, read, seen, int_size}
 use Rattle.mr_runs.specs.Pieces.{bytes_of_pieces}
-use Rattle.mr_eval.specs.Answers.{seen}
 use Rattle.mr_eval.proofs.ReadLength.{read_sized}
-use Rattle.mr_ast.specs.Integers.{int_size}
 use Rattle.mr_intr.proofs.AtomicRuns.{number_missing, number_refused}
 use Rattle.mr_intr.proofs.atomics.load_number.Goals as goal
 

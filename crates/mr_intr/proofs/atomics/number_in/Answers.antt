@@ -1,8 +1,6 @@
-use Rattle.std.proofs.Common.{◌≡◌, ℕ, ◌*◌, ◌^◌, ◌<◌, Some, ap, subst, sym, ◌∙◌}
+use Rattle.mr_intr.proofs.Common.{◌≡◌, ℕ, ◌*◌, ◌^◌, ◌<◌, Some, ap, subst, sym, ◌∙◌, number_of, numbered}
 use Rattle.mr_runs.specs.Pieces.{bytes_of_pieces}
-use Rattle.mr_value.specs.Numbers.{number_of}
 use Rattle.mr_value.proofs.DecodeShape.{number_fits}
-use Rattle.mr_intr.specs.Atomics.{numbered}
 use Rattle.mr_intr.proofs.AtomicLaws.{number_found, number_missing, same_bits}
 use Rattle.mr_intr.proofs.atomics.number_in.Goals as goal
 

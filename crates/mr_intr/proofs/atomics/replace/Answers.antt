@@ -1,7 +1,4 @@
-use Rattle.mr_ast.specs.Integers.{int_size}
-use Rattle.mr_eval.specs.Answers.{seen}
-use Rattle.mr_eval.specs.World.{tally_of}
-use Rattle.mr_intr.specs.Operations.{fetched}
+use Rattle.mr_intr.proofs.Common.{int_size, seen, tally_of, fetched}
 use Rattle.mr_intr.proofs.AtomicRuns.{handed_on, modify_fault, modify_stored, modify_unstored}
 use Rattle.mr_intr.proofs.atomics.replace.Goals as goal
 

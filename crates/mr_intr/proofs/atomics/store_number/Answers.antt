@@ -1,16 +1,7 @@
-use Rattle.std.proofs.Common.{◌≡◌, ℕ, List, [], Some, Ok, Err, true, ap, subst, sym, ◌∙◌}
-use Rattle.mr_base.specs.Stops.{reached_by}
+use Rattle.mr_intr.proofs.Common.{◌≡◌, ℕ, List, [], Some, Ok, Err, true, ap, subst, sym, ◌∙◌, reached_by, int_size, AbstractByte, lt_test, written, seen, number_bytes, accessing, seeing, has_int}
 use Rattle.mr_base.specs.declared.reached.Reaching.TheVariants.{Changes}
-use Rattle.mr_ast.specs.Integers.{int_size}
-use Rattle.mr_base.specs.declared.byte.AbstractByte.{AbstractByte}
-use Rattle.mr_base.proofs.Comparisons.{lt_test}
-use Rattle.mr_mem.specs.Memory.{written}
 use Rattle.mr_mem.specs.Stored.{IsStored}
 use Rattle.mr_runs.specs.Numbers.{with_provenance}
-use Rattle.mr_eval.specs.Answers.{seen}
-use Rattle.mr_eval.specs.MemoryQueries.{number_bytes}
-use Rattle.mr_eval.specs.Reads.{accessing, seeing}
-use Rattle.mr_value.proofs.ShapeLaws.{has_int}
 use Rattle.mr_intr.proofs.AtomicLaws.{int_bytes_are}
 use Rattle.mr_intr.proofs.AtomicRuns.{stored_refused, stored_went}
 use Rattle.mr_intr.proofs.atomics.store_number.Goals as goal

@@ -1,18 +1,10 @@
-use Rattle.std.proofs.Common.{List, Some, ap, sym, refl, ◌∙◌}
-use Rattle.std.specs.Prelude.{slice_get}
+use Rattle.mr_intr.proofs.Common.{List, Some, ap, sym, refl, ◌∙◌, slice_get, Heap, Allocate, Val, has_raw, begun, Effect, Refused}
+use Rattle.mr_eval.proofs.RefusedLaws.{stop_plainly}
 use Rattle.mr_ast.specs.declared.program.Intrinsic.TheVariants as intrinsic
-use Rattle.mr_base.specs.declared.byte.Kind.TheVariants.{Heap}
-use Rattle.mr_eval.specs.MemoryQueries.{Allocate}
-use Rattle.mr_value.specs.declared.val.Val.{Val}
 use Rattle.mr_value.specs.declared.val.Val.TheVariants as val
-use Rattle.mr_value.proofs.ShapeLaws.{has_raw}
-use Rattle.mr_intr.specs.Effects.{begun}
-use Rattle.mr_intr.specs.declared.effect.Effect.{Effect}
 use Rattle.mr_intr.proofs.Arguments.{allocate_takes}
 use Rattle.mr_intr.proofs.HeapLaws.{allocated, allocation_allowed, allocation_asked, allocation_picks, allocation_refused, first}
 use Rattle.mr_intr.proofs.OperatedLaws.{done_as, memory_went}
-use Rattle.mr_base.specs.Script.{Refused}
-use Rattle.mr_eval.proofs.RefusedLaws.{stop_plainly}
 use Rattle.mr_intr.proofs.OwnReasons.{allocation_own}
 use Rattle.mr_intr.proofs.heap.allocate.Goals as goal
 

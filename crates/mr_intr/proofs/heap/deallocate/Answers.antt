@@ -1,10 +1,5 @@
-use Rattle.std.proofs.Common.{List, None, ap, refl}
-use Rattle.std.specs.Prelude.{slice_get}
+use Rattle.mr_intr.proofs.Common.{List, None, ap, refl, slice_get, Heap, Free, Val, begun}
 use Rattle.mr_ast.specs.declared.program.Intrinsic.TheVariants as intrinsic
-use Rattle.mr_base.specs.declared.byte.Kind.TheVariants.{Heap}
-use Rattle.mr_eval.specs.MemoryQueries.{Free}
-use Rattle.mr_value.specs.declared.val.Val.{Val}
-use Rattle.mr_intr.specs.Effects.{begun}
 use Rattle.mr_intr.proofs.Arguments.{deallocate_takes}
 use Rattle.mr_intr.proofs.HeapLaws.{deallocated}
 use Rattle.mr_intr.proofs.OperatedLaws.{done_as, fault_as, memory_fault, memory_went}

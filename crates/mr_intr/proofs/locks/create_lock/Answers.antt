@@ -1,11 +1,6 @@
-use Rattle.std.proofs.Common.{◌<◌, ◌^◌, ℕ, subst, sym, refl, [], ◌∙◌, arith}
+use Rattle.mr_intr.proofs.Common.{◌<◌, ◌^◌, ℕ, subst, sym, refl, [], ◌∙◌, arith, U32, lt_test, Tables, has_int, IsDone, begun, operated}
 use Rattle.mr_ast.specs.declared.program.Intrinsic.TheVariants as intrinsic
-use Rattle.mr_ast.specs.declared.types.IntType.TheVariants.{U32}
-use Rattle.mr_base.proofs.Comparisons.{lt_test}
-use Rattle.mr_sync.specs.Tables.{Tables}
 use Rattle.mr_value.specs.declared.val.Val.TheVariants as val
-use Rattle.mr_value.proofs.ShapeLaws.{has_int}
-use Rattle.mr_intr.specs.Effects.{IsDone, begun, operated}
 use Rattle.mr_intr.proofs.LockLaws.{create_went, made}
 use Rattle.mr_intr.proofs.locks.create_lock.Goals as goal
 

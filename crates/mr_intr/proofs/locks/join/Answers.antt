@@ -1,7 +1,5 @@
-use Rattle.std.proofs.Common.{List, ap, refl, ◌∙◌}
-use Rattle.std.specs.Prelude.{slice_get}
+use Rattle.mr_intr.proofs.Common.{List, ap, refl, ◌∙◌, slice_get, Val}
 use Rattle.mr_ast.specs.declared.program.Intrinsic.TheVariants as intrinsic
-use Rattle.mr_value.specs.declared.val.Val.{Val}
 use Rattle.mr_intr.proofs.Arguments.{join_takes}
 use Rattle.mr_intr.proofs.LockLaws.{join_read, join_refused, join_went}
 use Rattle.mr_intr.proofs.OperatedLaws.{done_as}

@@ -1,8 +1,5 @@
-use Rattle.std.proofs.Common.{List, ap, refl, ◌∙◌}
-use Rattle.std.specs.Prelude.{slice_get}
+use Rattle.mr_intr.proofs.Common.{List, ap, refl, ◌∙◌, slice_get, Val, begun, operated}
 use Rattle.mr_ast.specs.declared.program.Intrinsic.TheVariants as intrinsic
-use Rattle.mr_value.specs.declared.val.Val.{Val}
-use Rattle.mr_intr.specs.Effects.{begun, operated}
 use Rattle.mr_intr.proofs.Arguments.{release_takes}
 use Rattle.mr_intr.proofs.LockLaws.{picks_of, release_read, release_refused, release_went, waiter_given, waiter_known}
 use Rattle.mr_intr.proofs.OperatedLaws.{done_as}

@@ -1,8 +1,5 @@
-use Rattle.std.proofs.Common.{Option, refl, subst, sym}
-use Rattle.std.specs.Prelude.{IfOk, option_copied}
-use Rattle.mr_ast.specs.declared.program.Intrinsic.{Intrinsic}
-use Rattle.mr_ast.specs.declared.types.Ty.{Ty}
-use Rattle.mr_intr.specs.Effects.{AreLawful, Fits, FitsPlace}
+use Rattle.mr_intr.proofs.Common.{Option, refl, subst, sym, option_copied, Intrinsic, Ty, AreLawful, Fits, FitsPlace}
+use Rattle.std.specs.Prelude.{IfOk}
 use Rattle.mr_intr.proofs.Arguments.{allocate_takes, create_lock_takes}
 use Rattle.mr_intr.proofs.operating.operate.Goals as goal
 

@@ -1,10 +1,6 @@
-use Rattle.std.proofs.Common.{◌≡◌, List, [], ◌∷◌, true, false, ap, refl, sym, subst, ◌∙◌}
-use Rattle.std.specs.Prelude.{slice_get}
+use Rattle.mr_intr.proofs.Common.{◌≡◌, List, [], ◌∷◌, true, false, ap, refl, sym, subst, ◌∙◌, slice_get, Val, IsDone, begun, notes_in, operated, Effect}
 use Rattle.mr_ast.specs.declared.program.Intrinsic.TheVariants as intrinsic
-use Rattle.mr_value.specs.declared.val.Val.{Val}
 use Rattle.mr_value.specs.declared.val.Val.TheVariants as val
-use Rattle.mr_intr.specs.Effects.{IsDone, begun, notes_in, operated}
-use Rattle.mr_intr.specs.declared.effect.Effect.{Effect}
 use Rattle.mr_intr.proofs.Arguments.{assume_takes, one_read}
 use Rattle.mr_intr.proofs.OperatedLaws.{operated_assume}
 use Rattle.mr_intr.proofs.texts.assume.Goals as goal

@@ -1,12 +1,6 @@
-use Rattle.std.proofs.Common.{◌≡◌, ℕ, List, ◌++◌, [], ◌∷◌, drop, ap, sym, subst, ◌∙◌, append-nil, append_assoc}
+use Rattle.mr_intr.proofs.Common.{◌≡◌, ℕ, List, ◌++◌, [], ◌∷◌, drop, ap, sym, subst, ◌∙◌, append-nil, append_assoc, HaveShapes, Ty, Val, text_in, texts_in, spaced, spaced_behind, begun, operated}
 use Rattle.std.proofs.lemmas.List.{nil_from_length}
-use Rattle.mr_eval.specs.Shapes.{HaveShapes}
 use Rattle.mr_ast.specs.declared.program.Intrinsic.TheVariants as intrinsic
-use Rattle.mr_ast.specs.declared.types.Ty.{Ty}
-use Rattle.mr_value.specs.declared.val.Val.{Val}
-use Rattle.mr_intr.specs.Printed.{text_in, texts_in}
-use Rattle.mr_intr.specs.Texts.{spaced, spaced_behind}
-use Rattle.mr_intr.specs.Effects.{begun, operated}
 use Rattle.mr_intr.proofs.OperatedLaws.{done_as}
 use Rattle.mr_intr.proofs.TextLaws.{behind_first, no_texts, printed_done, print_kinds, texts_first}
 use Rattle.mr_intr.proofs.texts.print.Goals as goal

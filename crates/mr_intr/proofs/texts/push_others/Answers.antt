@@ -1,6 +1,5 @@
-use Rattle.std.proofs.Common.{ℕ, List, ◌++◌, ◌∙◌, ap, sym, arith, append-nil}
+use Rattle.mr_intr.proofs.Common.{ℕ, List, ◌++◌, ◌∙◌, ap, sym, arith, append-nil, text_in}
 use Rattle.mr_eval.proofs.ShapeOf.{shapes_length}
-use Rattle.mr_intr.specs.Printed.{text_in}
 use Rattle.mr_intr.proofs.TextLaws.{scalar_here, shape_here, texts_end, texts_next}
 use Rattle.mr_intr.proofs.texts.push_others.Goals as goal
 

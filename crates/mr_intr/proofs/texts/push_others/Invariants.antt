@@ -1,6 +1,4 @@
-use Rattle.std.proofs.Common.{◌≡◌, ◌++◌, drop}
-use Rattle.mr_intr.specs.Printed.{texts_in}
-use Rattle.mr_intr.specs.Texts.{spaced_behind}
+use Rattle.mr_intr.proofs.Common.{◌≡◌, ◌++◌, drop, texts_in, spaced_behind}
 use Rattle.mr_intr.proofs.texts.push_others.Given as goal
 
 -- what stands there and the texts of the rest are all that is to stand there

@@ -1,5 +1,4 @@
-use Rattle.std.proofs.Common.{◌≡◌, drop}
-use Rattle.mr_labels.specs.Index.{is_apart}
+use Rattle.mr_labels.proofs.Common.{◌≡◌, drop, is_apart}
 use Rattle.mr_labels.proofs.index.are_apart.Given as goal
 
 -- those before this one are apart

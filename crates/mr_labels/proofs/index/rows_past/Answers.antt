@@ -1,8 +1,7 @@
-use Rattle.std.proofs.Common.{◌∙◌, arith, rules}
-use Rattle.std.specs.Prelude.{nat_le, ◌+◌}
+use Rattle.mr_labels.proofs.Common.{◌∙◌, arith, nat_le, ◌+◌, Allocation}
+use Rattle.std.proofs.Common.{rules}
 use Rattle.std.proofs.lemmas.List.{take_rest}
 use Rattle.std.proofs.lemmas.List.Sorted.{IsPartitionPoint-from_clause, IsPartitionedBy-leb}
-use Rattle.mr_labels.specs.declared.rows.Allocation.{Allocation}
 use Rattle.mr_labels.proofs.IndexLaws.{ends_rise, past_point}
 use Rattle.mr_labels.proofs.index.rows_past.Goals as goal
 

@@ -1,5 +1,4 @@
-use Rattle.std.proofs.Common.{◌∙◌, ap}
-use Rattle.mr_labels.specs.Index.{first_holding}
+use Rattle.mr_labels.proofs.Common.{◌∙◌, ap, first_holding}
 use Rattle.mr_labels.proofs.IndexLaws.{found_past}
 use Rattle.mr_labels.proofs.index.searched.Goals as goal
 

@@ -1,5 +1,4 @@
-use Rattle.std.specs.Prelude.{◌≡◌, drop}
-use Rattle.mr_labels.specs.Table.{found_at}
+use Rattle.mr_labels.proofs.Common.{◌≡◌, drop, found_at}
 use Rattle.mr_labels.proofs.lookup.found_at.Given as goal
 
 -- none so far holds the address

@@ -1,4 +1,4 @@
-use Rattle.std.specs.Prelude.{◌≡◌, drop}
+use Rattle.mr_labels.proofs.Common.{◌≡◌, drop}
 use Rattle.mr_labels.specs.Table.{named}
 use Rattle.mr_labels.proofs.lookup.named.Given as goal
 

@@ -1,4 +1,5 @@
-use Rattle.std.specs.Prelude.{◌≡◌, ◌∷◌, map, take}
+use Rattle.mr_labels.proofs.Common.{◌≡◌, ◌∷◌, map}
+use Rattle.std.specs.Prelude.{take}
 use Rattle.mr_labels.specs.Names.{local_name}
 use Rattle.mr_labels.proofs.names.kept_names.Given as goal
 

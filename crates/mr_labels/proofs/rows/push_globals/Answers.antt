@@ -1,5 +1,4 @@
-use Rattle.std.proofs.Common.{◌∙◌}
-use Rattle.mr_labels.specs.Names.{global_name}
+use Rattle.mr_labels.proofs.Common.{◌∙◌, global_name}
 use Rattle.mr_labels.proofs.Growing.{pushed_next}
 use Rattle.mr_labels.proofs.rows.push_globals.Goals as goal
 

@@ -1,5 +1,4 @@
-use Rattle.std.proofs.Common.{◌∙◌}
-use Rattle.mr_labels.specs.Table.{start_id}
+use Rattle.mr_labels.proofs.Common.{◌∙◌, start_id}
 use Rattle.mr_labels.proofs.Growing.{pushed_next}
 use Rattle.mr_labels.proofs.rows.push_ids.Goals as goal
 

@@ -1,6 +1,4 @@
-use Rattle.std.specs.Prelude.{◌≡◌, ◌++◌, map}
-use Rattle.std.specs.List.{range_with_len}
-use Rattle.mr_labels.specs.Table.{start_id}
+use Rattle.mr_labels.proofs.Common.{◌≡◌, ◌++◌, map, range_with_len, start_id}
 use Rattle.mr_labels.proofs.rows.push_ids.Given as goal
 
 -- one for each turn was pushed

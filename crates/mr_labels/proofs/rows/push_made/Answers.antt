@@ -1,5 +1,4 @@
-use Rattle.std.proofs.Common.{◌∙◌, arith}
-use Rattle.mr_labels.specs.Table.{row_at}
+use Rattle.mr_labels.proofs.Common.{◌∙◌, arith, row_at}
 use Rattle.mr_labels.proofs.Growing.{appended_next}
 use Rattle.mr_labels.proofs.rows.push_made.Goals as goal
 

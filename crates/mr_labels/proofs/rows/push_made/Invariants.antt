@@ -1,6 +1,4 @@
-use Rattle.std.specs.Prelude.{◌≡◌, ◌++◌, flat_map}
-use Rattle.std.specs.List.{range_with_len}
-use Rattle.mr_labels.specs.Table.{row_at}
+use Rattle.mr_labels.proofs.Common.{◌≡◌, ◌++◌, flat_map, range_with_len, row_at}
 use Rattle.mr_labels.proofs.rows.push_made.Given as goal
 
 -- the names before this one have their allocations

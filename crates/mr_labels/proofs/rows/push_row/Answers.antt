@@ -1,6 +1,5 @@
-use Rattle.std.proofs.Common.{◌∙◌, ap, sym, ◌++◌, append-nil}
-use Rattle.std.specs.Prelude.{Option, option_to_list}
-use Rattle.mr_labels.specs.declared.rows.Allocation.{Allocation}
+use Rattle.mr_labels.proofs.Common.{◌∙◌, ap, sym, ◌++◌, append-nil, Option, Allocation}
+use Rattle.std.specs.Prelude.{option_to_list}
 use Rattle.mr_labels.specs.Table.{row_of}
 use Rattle.mr_labels.proofs.rows.push_row.Goals as goal
 

@@ -1,5 +1,4 @@
-use Rattle.std.proofs.Common.{◌≡◌, drop}
-use Rattle.mr_layout.specs.Alike.{tags_meeting}
+use Rattle.mr_layout.proofs.Common.{◌≡◌, drop, tags_meeting}
 use Rattle.mr_layout.proofs.alike.are_two_tags_meeting.Given as goal
 
 abbrev pub invariant-loop-i : goal.invariant-loop-i

@@ -1,5 +1,4 @@
-use Rattle.std.proofs.Common.{◌≡◌, map, take}
-use Rattle.mr_layout.specs.Alike.{case_key}
+use Rattle.mr_layout.proofs.Common.{◌≡◌, map, take, case_key}
 use Rattle.mr_layout.proofs.alike.case_keys.Given as goal
 
 abbrev pub invariant-loop-case : goal.invariant-loop-case

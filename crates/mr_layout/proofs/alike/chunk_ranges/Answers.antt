@@ -1,4 +1,4 @@
-use Rattle.std.proofs.Common.{arith}
+use Rattle.mr_layout.proofs.Common.{arith}
 use Rattle.mr_layout.proofs.AlikeLaws.{not_empty_next}
 use Rattle.mr_layout.proofs.alike.chunk_ranges.Goals as goal
 

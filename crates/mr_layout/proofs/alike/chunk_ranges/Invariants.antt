@@ -1,5 +1,4 @@
-use Rattle.std.proofs.Common.{◌≡◌, take}
-use Rattle.mr_base.specs.Pairs.{not_empty}
+use Rattle.mr_layout.proofs.Common.{◌≡◌, take, not_empty}
 use Rattle.mr_layout.proofs.alike.chunk_ranges.Given as goal
 
 abbrev pub invariant-loop-chunk : goal.invariant-loop-chunk

@@ -1,5 +1,4 @@
-use Rattle.std.proofs.Common.{ap, ◌∙◌, arith}
-use Rattle.mr_layout.specs.Alike.{field_range}
+use Rattle.mr_layout.proofs.Common.{ap, ◌∙◌, arith, field_range}
 use Rattle.mr_layout.proofs.AlikeLaws.{not_empty_step, past_next}
 use Rattle.mr_layout.proofs.alike.field_ranges.Goals as goal
 

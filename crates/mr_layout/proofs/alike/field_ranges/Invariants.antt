@@ -1,7 +1,4 @@
-use Rattle.std.proofs.Common.{◌≡◌, false, drop, map, take}
-use Rattle.mr_base.specs.Pairs.{not_empty}
-use Rattle.mr_layout.specs.Alike.{field_range}
-use Rattle.mr_layout.specs.Rules.{is_past}
+use Rattle.mr_layout.proofs.Common.{◌≡◌, false, drop, map, take, not_empty, field_range, is_past}
 use Rattle.mr_layout.proofs.alike.field_ranges.Given as goal
 
 abbrev pub invariant-loop-field : goal.invariant-loop-field

@@ -1,5 +1,4 @@
-use Rattle.std.proofs.Common.{◌≡◌, drop}
-use Rattle.mr_layout.specs.Alike.{case_twice}
+use Rattle.mr_layout.proofs.Common.{◌≡◌, drop, case_twice}
 use Rattle.mr_layout.proofs.alike.is_case_in_two.Given as goal
 
 abbrev pub invariant-loop-i : goal.invariant-loop-i

@@ -1,5 +1,4 @@
-use Rattle.std.proofs.Common.{◌≡◌, drop}
-use Rattle.mr_layout.specs.Alike.{number_twice}
+use Rattle.mr_layout.proofs.Common.{◌≡◌, drop, number_twice}
 use Rattle.mr_layout.proofs.alike.is_number_in_two.Given as goal
 
 abbrev pub invariant-loop-i : goal.invariant-loop-i

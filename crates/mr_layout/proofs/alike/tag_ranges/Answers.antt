@@ -1,7 +1,4 @@
-use Rattle.std.proofs.Common.{false, get_or, ap, arith}
-use Rattle.mr_ast.specs.declared.types.IntType.TheVariants.{U8}
-use Rattle.mr_ast.specs.declared.types.Tag.{Tag}
-use Rattle.mr_layout.specs.Alike.{tag_range}
+use Rattle.mr_layout.proofs.Common.{false, get_or, ap, arith, U8, Tag, tag_range}
 use Rattle.mr_layout.proofs.AlikeLaws.{not_empty_step}
 use Rattle.mr_layout.proofs.alike.tag_ranges.Goals as goal
 

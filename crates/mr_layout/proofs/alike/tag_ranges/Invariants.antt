@@ -1,6 +1,4 @@
-use Rattle.std.proofs.Common.{◌≡◌, map, take}
-use Rattle.mr_base.specs.Pairs.{not_empty}
-use Rattle.mr_layout.specs.Alike.{tag_range}
+use Rattle.mr_layout.proofs.Common.{◌≡◌, map, take, not_empty, tag_range}
 use Rattle.mr_layout.proofs.alike.tag_ranges.Given as goal
 
 abbrev pub invariant-loop-tag : goal.invariant-loop-tag

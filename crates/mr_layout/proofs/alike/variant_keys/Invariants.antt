@@ -1,5 +1,4 @@
-use Rattle.std.proofs.Common.{◌≡◌, map, take}
-use Rattle.mr_layout.specs.Alike.{variant_key}
+use Rattle.mr_layout.proofs.Common.{◌≡◌, map, take, variant_key}
 use Rattle.mr_layout.proofs.alike.variant_keys.Given as goal
 
 abbrev pub invariant-loop-variant : goal.invariant-loop-variant

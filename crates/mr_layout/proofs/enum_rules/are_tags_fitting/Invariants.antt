@@ -1,5 +1,4 @@
-use Rattle.std.proofs.Common.{◌≡◌, drop}
-use Rattle.mr_layout.specs.Alike.{are_tags_fitting}
+use Rattle.mr_layout.proofs.Common.{◌≡◌, drop, are_tags_fitting}
 use Rattle.mr_layout.proofs.enum_rules.are_tags_fitting.Given as goal
 
 abbrev pub invariant-loop-tag : goal.invariant-loop-tag

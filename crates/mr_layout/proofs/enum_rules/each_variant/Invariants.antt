@@ -1,5 +1,4 @@
-use Rattle.std.proofs.Common.{◌≡◌, drop}
-use Rattle.mr_layout.specs.Alike.{each_variant}
+use Rattle.mr_layout.proofs.Common.{◌≡◌, drop, each_variant}
 use Rattle.mr_layout.proofs.enum_rules.each_variant.Given as goal
 
 abbrev pub invariant-loop-variant : goal.invariant-loop-variant

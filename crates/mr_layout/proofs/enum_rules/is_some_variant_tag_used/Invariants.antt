@@ -1,5 +1,4 @@
-use Rattle.std.proofs.Common.{◌≡◌, true, drop}
-use Rattle.mr_layout.specs.Alike.{are_tags_alone, is_variant_tag_used}
+use Rattle.mr_layout.proofs.Common.{◌≡◌, true, drop, are_tags_alone, is_variant_tag_used}
 use Rattle.mr_layout.proofs.enum_rules.is_some_variant_tag_used.Given as goal
 
 abbrev pub invariant-loop-variant : goal.invariant-loop-variant

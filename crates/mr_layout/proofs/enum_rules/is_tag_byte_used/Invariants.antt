@@ -1,5 +1,4 @@
-use Rattle.std.proofs.Common.{◌≡◌, true, drop}
-use Rattle.mr_layout.specs.Alike.{are_tags_fitting, is_some_tag_used}
+use Rattle.mr_layout.proofs.Common.{◌≡◌, true, drop, are_tags_fitting, is_some_tag_used}
 use Rattle.mr_layout.proofs.enum_rules.is_tag_byte_used.Given as goal
 
 abbrev pub invariant-loop-tag : goal.invariant-loop-tag

@@ -1,6 +1,4 @@
-use Rattle.std.proofs.Common.{◌≡◌, false, drop}
-use Rattle.mr_layout.specs.Met.{are_outside}
-use Rattle.mr_layout.specs.Rules.{is_past}
+use Rattle.mr_layout.proofs.Common.{◌≡◌, false, drop, are_outside, is_past}
 use Rattle.mr_layout.proofs.gaps.are_outside.Given as goal
 
 abbrev pub invariant-loop-field : goal.invariant-loop-field

@@ -1,7 +1,4 @@
-use Rattle.std.proofs.Common.{◌≡◌, ap, sym, subst, ◌∙◌}
-use Rattle.std.specs.Prelude.{IfSome}
-use Rattle.mr_layout.specs.Marks.{is_mark, are_unmarked}
-use Rattle.mr_layout.specs.Used.{is_in_chunk}
+use Rattle.mr_layout.proofs.Common.{◌≡◌, ap, sym, subst, ◌∙◌, IfSome, is_mark, are_unmarked, is_in_chunk}
 use Rattle.mr_layout.proofs.MarkLaws.{unmarked_covered, marks_in_gaps}
 use Rattle.mr_layout.proofs.gaps.are_outside_table.Goals as goal
 

@@ -1,7 +1,4 @@
-use Rattle.std.proofs.Common.{◌≡◌, ◌++◌, false, drop}
-use Rattle.mr_base.specs.Pairs.{not_empty}
-use Rattle.mr_layout.specs.Met.{gaps_from}
-use Rattle.mr_layout.specs.Rules.{is_chunk_past}
+use Rattle.mr_layout.proofs.Common.{◌≡◌, ◌++◌, false, drop, not_empty, gaps_from, is_chunk_past}
 use Rattle.mr_layout.proofs.gaps.gaps.Given as goal
 
 abbrev pub invariant-loop-chunk : goal.invariant-loop-chunk

@@ -1,9 +1,5 @@
-use Rattle.std.proofs.Common.{◌≡◌, sym, ap, subst, ◌∙◌}
-use Rattle.std.specs.Prelude.{IfSome}
-use Rattle.mr_ast.specs.declared.types.Ty.{Ty}
+use Rattle.mr_layout.proofs.Common.{◌≡◌, sym, ap, subst, ◌∙◌, IfSome, Ty, is_used, size_of}
 use Rattle.mr_ast.specs.declared.types.Ty.TheVariants as ty
-use Rattle.mr_layout.specs.Used.{is_used}
-use Rattle.mr_layout.specs.Sizes.{size_of}
 use Rattle.mr_layout.proofs.FoldLaws.{one_elem, folded_elem, known_size}
 use Rattle.mr_layout.proofs.MarkLaws.{row_marked, rows_marked}
 use Rattle.mr_layout.proofs.marked.+marked.Goals as goal

@@ -1,5 +1,4 @@
-use Rattle.std.proofs.Common.{◌≡◌, drop}
-use Rattle.mr_layout.specs.Marks.{is_field_marked, is_variant_marked}
+use Rattle.mr_layout.proofs.Common.{◌≡◌, drop, is_field_marked, is_variant_marked}
 use Rattle.mr_layout.proofs.marked.+marked.Given as goal
 
 abbrev pub invariant-is_field_marked-loop-field : goal.invariant-is_field_marked-loop-field

@@ -1,6 +1,4 @@
-use Rattle.std.proofs.Common.{◌≡◌, false, drop}
-use Rattle.mr_layout.specs.Marks.{are_unmarked}
-use Rattle.mr_layout.specs.Rules.{is_past}
+use Rattle.mr_layout.proofs.Common.{◌≡◌, false, drop, are_unmarked, is_past}
 use Rattle.mr_layout.proofs.marked.are_unmarked.Given as goal
 
 abbrev pub invariant-loop-field : goal.invariant-loop-field

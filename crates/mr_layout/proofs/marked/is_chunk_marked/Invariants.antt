@@ -1,5 +1,4 @@
-use Rattle.std.proofs.Common.{◌≡◌, drop}
-use Rattle.mr_layout.specs.Marks.{is_chunk_marked}
+use Rattle.mr_layout.proofs.Common.{◌≡◌, drop, is_chunk_marked}
 use Rattle.mr_layout.proofs.marked.is_chunk_marked.Given as goal
 
 abbrev pub invariant-loop-chunk : goal.invariant-loop-chunk

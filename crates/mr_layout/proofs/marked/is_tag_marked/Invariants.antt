@@ -1,5 +1,4 @@
-use Rattle.std.proofs.Common.{◌≡◌, drop}
-use Rattle.mr_layout.specs.Marks.{is_tag_marked}
+use Rattle.mr_layout.proofs.Common.{◌≡◌, drop, is_tag_marked}
 use Rattle.mr_layout.proofs.marked.is_tag_marked.Given as goal
 
 abbrev pub invariant-loop-tag : goal.invariant-loop-tag

@@ -1,8 +1,4 @@
-use Rattle.std.proofs.Common.{◌≡◌, ◌+◌, length, drop, slice_index, ap, ◌∙◌, arith}
-use Rattle.std.specs.Prelude.{not, ◌&&◌}
-use Rattle.std.proofs.lemmas.List.{length-replicate}
-use Rattle.mr_layout.specs.Marks.{is_mark}
-use Rattle.mr_layout.specs.Used.{is_in_chunk}
+use Rattle.mr_layout.proofs.Common.{◌≡◌, ◌+◌, length, drop, slice_index, ap, ◌∙◌, arith, not, ◌&&◌, length-replicate, is_mark, is_in_chunk}
 use Rattle.mr_layout.proofs.FoldLaws.{written_back}
 use Rattle.mr_layout.proofs.MarkLaws.{chunk_fits, chunks_fit, chunk_step, chunk_end, all_marks_of}
 use Rattle.mr_layout.proofs.marks.between.Goals as goal

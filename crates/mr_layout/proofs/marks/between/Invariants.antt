@@ -1,8 +1,4 @@
-use Rattle.std.proofs.Common.{◌≡◌, ℕ, ◌<◌, false, length, drop}
-use Rattle.std.specs.Prelude.{not, ◌&&◌}
-use Rattle.mr_layout.specs.Marks.{is_mark}
-use Rattle.mr_layout.specs.Rules.{is_chunk_past}
-use Rattle.mr_layout.specs.Used.{is_in_chunk}
+use Rattle.mr_layout.proofs.Common.{◌≡◌, ℕ, ◌<◌, false, length, drop, not, ◌&&◌, is_mark, is_chunk_past, is_in_chunk}
 use Rattle.mr_layout.proofs.marks.between.Given as goal
 
 abbrev pub invariant-loop-chunk : goal.invariant-loop-chunk

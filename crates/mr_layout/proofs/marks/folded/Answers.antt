@@ -1,6 +1,4 @@
-use Rattle.std.proofs.Common.{◌≡◌, ◌*◌, ◌%◌, sym, ap, ◌∙◌, arith}
-use Rattle.std.proofs.lemmas.Result.{IfOk-weaker}
-use Rattle.mr_layout.specs.Marks.{is_marked}
+use Rattle.mr_layout.proofs.Common.{◌≡◌, ◌*◌, ◌%◌, sym, ap, ◌∙◌, arith, IfOk-weaker, is_marked}
 use Rattle.mr_layout.proofs.marks.folded.Goals as goal
 
 pub returns : goal.returns

@@ -1,8 +1,5 @@
-use Rattle.std.proofs.Common.{◌≡◌, ◌*◌, ◌%◌, ◌<◌, ◌≤◌, length, max, min, slice_index, take, sym, ap, ◌∙◌, arith}
-use Rattle.std.specs.Prelude.{◌||◌}
+use Rattle.mr_layout.proofs.Common.{◌≡◌, ◌*◌, ◌%◌, ◌<◌, ◌≤◌, length, max, min, slice_index, take, sym, ap, ◌∙◌, arith, ◌||◌, length-take, is_marked}
 use Rattle.std.proofs.lemmas.Bool.{eqb-true, eqb-false}
-use Rattle.std.proofs.lemmas.List.{length-take}
-use Rattle.mr_layout.specs.Marks.{is_marked}
 use Rattle.mr_layout.proofs.FoldLaws.{first_step, step_over, last_step, within_one, written_back}
 use Rattle.mr_layout.proofs.marks.gathered.Goals as goal
 

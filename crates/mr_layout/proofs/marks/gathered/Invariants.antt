@@ -1,7 +1,4 @@
-use Rattle.std.proofs.Common.{◌≡◌, ◌*◌, ◌%◌, ◌<◌, ◌≤◌, ℕ, length}
-use Rattle.std.specs.Prelude.{◌||◌}
-use Rattle.mr_layout.specs.Marks.{is_marked}
-use Rattle.mr_layout.specs.Used.{Use}
+use Rattle.mr_layout.proofs.Common.{◌≡◌, ◌*◌, ◌%◌, ◌<◌, ◌≤◌, ℕ, length, ◌||◌, is_marked, Use}
 use Rattle.mr_layout.proofs.marks.gathered.Given as goal
 
 abbrev pub invariant-loop-rest : goal.invariant-loop-rest

@@ -1,5 +1,4 @@
-use Rattle.std.proofs.Common.{◌≡◌, get_or, max, ap, ◌∙◌, arith}
-use Rattle.std.specs.Prelude.{nat_lt}
+use Rattle.mr_layout.proofs.Common.{◌≡◌, get_or, max, ap, ◌∙◌, arith, nat_lt}
 use Rattle.mr_layout.proofs.FoldLaws.{one_mark, all_marks}
 use Rattle.mr_layout.proofs.marks.is_some.Goals as goal
 

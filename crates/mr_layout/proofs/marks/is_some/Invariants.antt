@@ -1,7 +1,4 @@
-use Rattle.std.proofs.Common.{◌≡◌}
-use Rattle.std.specs.Prelude.{nat_lt, ◌&&◌}
-use Rattle.mr_layout.specs.Marks.{every, is_mark}
-use Rattle.mr_layout.specs.Met.{is_some_below}
+use Rattle.mr_layout.proofs.Common.{◌≡◌, nat_lt, ◌&&◌, every, is_mark, is_some_below}
 use Rattle.mr_layout.proofs.marks.is_some.Given as goal
 
 abbrev pub invariant-loop-byte : goal.invariant-loop-byte

@@ -1,8 +1,4 @@
-use Rattle.std.proofs.Common.{◌+◌, ◌*◌, ◌^◌, min, take, sym, ap, ◌∙◌, arith}
-use Rattle.mr_layout.specs.Used.{is_used}
-use Rattle.mr_layout.specs.Met.{is_met, is_in_order}
-use Rattle.mr_ast.specs.declared.types.Ty.{Ty}
-use Rattle.mr_layout.specs.Sizes.{size_of}
+use Rattle.mr_layout.proofs.Common.{◌+◌, ◌*◌, ◌^◌, min, take, sym, ap, ◌∙◌, arith, is_used, is_met, is_in_order, Ty, size_of}
 use Rattle.mr_layout.proofs.RunLaws.{order_past}
 use Rattle.mr_layout.proofs.RowLaws.{array_init, array_empty, rows_empty, rows_next, rows_over, order_rest}
 use Rattle.mr_layout.proofs.met.+met.Goals.{is_met-then-len-eq0-via-then-len-eq0, is_met-then-len-eq0-via-else-len-eq0+then-stop-range}

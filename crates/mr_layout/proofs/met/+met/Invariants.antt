@@ -1,6 +1,4 @@
-use Rattle.std.proofs.Common.{◌≡◌, true, drop}
-use Rattle.mr_layout.specs.Used.{is_used}
-use Rattle.mr_layout.specs.Met.{is_met, is_field_met, is_variant_met, are_rows_met, is_in_order}
+use Rattle.mr_layout.proofs.Common.{◌≡◌, true, drop, is_used, is_met, is_field_met, is_variant_met, are_rows_met, is_in_order}
 use Rattle.mr_layout.proofs.met.+met.Given as goal
 
 abbrev pub invariant-is_met-loop-range : goal.invariant-is_met-loop-range

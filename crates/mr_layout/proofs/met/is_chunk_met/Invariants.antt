@@ -1,5 +1,4 @@
-use Rattle.std.proofs.Common.{◌≡◌, drop}
-use Rattle.mr_layout.specs.Met.{is_chunk_met}
+use Rattle.mr_layout.proofs.Common.{◌≡◌, drop, is_chunk_met}
 use Rattle.mr_layout.proofs.met.is_chunk_met.Given as goal
 
 abbrev pub invariant-loop-chunk : goal.invariant-loop-chunk

@@ -1,5 +1,4 @@
-use Rattle.std.proofs.Common.{◌≡◌, drop}
-use Rattle.mr_layout.specs.Met.{is_in_order, is_in_order_after}
+use Rattle.mr_layout.proofs.Common.{◌≡◌, drop, is_in_order, is_in_order_after}
 use Rattle.mr_layout.proofs.met.is_in_order.Given as goal
 
 abbrev pub invariant-loop-range : goal.invariant-loop-range

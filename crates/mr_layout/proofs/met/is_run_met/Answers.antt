@@ -1,6 +1,5 @@
-use Rattle.std.proofs.Common.{◌≡◌, ◌+◌, min, true, false, sym, ◌∙◌, arith}
+use Rattle.mr_layout.proofs.Common.{◌≡◌, ◌+◌, min, true, false, sym, ◌∙◌, arith, lt_test, not_lt_test}
 use Rattle.mr_layout.proofs.RunLaws.{run_missed, run_seen}
-use Rattle.mr_base.proofs.Comparisons.{lt_test, not_lt_test}
 use Rattle.mr_layout.proofs.met.is_run_met.Goals as goal
 
 pub returns-in-empty : goal.returns-in-empty

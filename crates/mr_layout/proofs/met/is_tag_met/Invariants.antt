@@ -1,5 +1,4 @@
-use Rattle.std.proofs.Common.{◌≡◌, drop}
-use Rattle.mr_layout.specs.Met.{is_tag_met}
+use Rattle.mr_layout.proofs.Common.{◌≡◌, drop, is_tag_met}
 use Rattle.mr_layout.proofs.met.is_tag_met.Given as goal
 
 abbrev pub invariant-loop-tag : goal.invariant-loop-tag

@@ -1,4 +1,4 @@
-use Rattle.std.proofs.Common.{◌≡◌, ◌+◌, ◌-◌, ◌%◌, ap, sym, ◌∙◌, arith}
+use Rattle.mr_layout.proofs.Common.{◌≡◌, ◌+◌, ◌-◌, ◌%◌, ap, sym, ◌∙◌, arith}
 use Rattle.mr_layout.proofs.RowLaws.{row_none, row_whole, row_inside, row_around, met_none}
 use Rattle.mr_layout.proofs.met.pieces.Goals as goal
 

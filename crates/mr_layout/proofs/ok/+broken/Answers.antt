@@ -1,13 +1,6 @@
-use Rattle.std.proofs.Common.{◌≡◌, ℕ, ◌≤◌, Bool, true, false, List, Option, Some, None, length, refl, sym, ap, ap₂, subst, ◌∙◌, arith}
-use Rattle.std.specs.Prelude.{nat_lt, IfSome, is_some}
-use Rattle.std.proofs.lemmas.Result.{IfOk-weaker}
-use Rattle.mr_ast.specs.declared.types.Tag.{Tag}
-use Rattle.mr_ast.specs.declared.types.Ty.{Ty}
+use Rattle.mr_layout.proofs.Common.{◌≡◌, ℕ, ◌≤◌, Bool, true, false, List, Option, Some, None, length, refl, sym, ap, subst, ◌∙◌, arith, nat_lt, IfSome, is_some, IfOk-weaker, Tag, Ty, Variant, size_of, is_in_chunk, is_used, is_used_field, is_used_in, Marks, is_first, is_used_row, are_tags_inside, is_some_tag_mark}
+use Rattle.std.proofs.Common.{ap₂}
 use Rattle.mr_ast.specs.declared.types.Ty.TheVariants as ty
-use Rattle.mr_ast.specs.declared.types.Variant.{Variant}
-use Rattle.mr_layout.specs.Sizes.{size_of}
-use Rattle.mr_layout.specs.Used.{is_in_chunk, is_used, is_used_field, is_used_in}
-use Rattle.mr_layout.specs.Tables.{Marks, is_first, is_used_row, are_tags_inside, is_some_tag_mark}
 use Rattle.mr_layout.proofs.ArrayRows.{used_rows}
 use Rattle.mr_layout.proofs.UsedLaws.{used_int, used_bool, used_raw, used_fn_ptr, used_ref, used_tuple, used_array, used_union, used_enum}
 use Rattle.mr_layout.proofs.TableLaws.{marks_alike, marks_then, marks_nowhere, marks_long, with_tags, tags_seen, variant_marks}

@@ -1,5 +1,4 @@
-use Rattle.std.proofs.Common.{◌≡◌, drop}
-use Rattle.mr_layout.specs.Rules.{is_chunk_overlapping}
+use Rattle.mr_layout.proofs.Common.{◌≡◌, drop, is_chunk_overlapping}
 use Rattle.mr_layout.proofs.rules.are_chunks_overlapping.Given as goal
 
 abbrev pub invariant-loop-i : goal.invariant-loop-i

@@ -1,5 +1,4 @@
-use Rattle.std.proofs.Common.{◌≡◌, drop}
-use Rattle.mr_layout.specs.Rules.{is_rising_after}
+use Rattle.mr_layout.proofs.Common.{◌≡◌, drop, is_rising_after}
 use Rattle.mr_layout.proofs.rules.is_rising_after.Given as goal
 
 abbrev pub invariant-loop-chunk : goal.invariant-loop-chunk

@@ -1,5 +1,4 @@
-use Rattle.std.proofs.Common.{◌≡◌, drop}
-use Rattle.mr_layout.specs.Rules.{meets_chunk}
+use Rattle.mr_layout.proofs.Common.{◌≡◌, drop, meets_chunk}
 use Rattle.mr_layout.proofs.rules.meets_chunk.Given as goal
 
 abbrev pub invariant-loop-chunk : goal.invariant-loop-chunk

@@ -1,5 +1,4 @@
-use Rattle.std.proofs.Common.{◌≡◌, drop}
-use Rattle.mr_layout.specs.Tables.{are_tags_inside}
+use Rattle.mr_layout.proofs.Common.{◌≡◌, drop, are_tags_inside}
 use Rattle.mr_layout.proofs.tables.are_tags_inside.Given as goal
 
 abbrev pub invariant-loop-tag : goal.invariant-loop-tag

@@ -1,4 +1,4 @@
-use Rattle.std.proofs.Common.{ℕ, ◌<◌, ◌≤◌, slice_index}
+use Rattle.mr_layout.proofs.Common.{ℕ, ◌<◌, ◌≤◌, slice_index}
 use Rattle.mr_layout.proofs.tables.is_full.Given as goal
 
 abbrev pub invariant-loop-byte : goal.invariant-loop-byte

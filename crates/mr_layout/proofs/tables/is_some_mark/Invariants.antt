@@ -1,5 +1,4 @@
-use Rattle.std.proofs.Common.{◌≡◌, ◌≤◌}
-use Rattle.mr_layout.specs.Tables.{is_some_mark}
+use Rattle.mr_layout.proofs.Common.{◌≡◌, ◌≤◌, is_some_mark}
 use Rattle.mr_layout.proofs.tables.is_some_mark.Given as goal
 
 abbrev pub invariant-loop-i : goal.invariant-loop-i

@@ -1,5 +1,4 @@
-use Rattle.std.proofs.Common.{◌≡◌, true, length, drop}
-use Rattle.mr_layout.specs.Tables.{are_tags_inside, is_some_tag_mark}
+use Rattle.mr_layout.proofs.Common.{◌≡◌, true, length, drop, are_tags_inside, is_some_tag_mark}
 use Rattle.mr_layout.proofs.tables.is_some_tag_mark.Given as goal
 
 abbrev pub invariant-loop-tag : goal.invariant-loop-tag

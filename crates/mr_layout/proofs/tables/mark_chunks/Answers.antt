@@ -1,6 +1,4 @@
-use Rattle.std.proofs.Common.{ℕ, ◌+◌, List, get_or, drop, ap, arith}
-use Rattle.std.proofs.lemmas.List.{drop_more, drop_all}
-use Rattle.mr_layout.specs.Used.{is_in, is_in_chunk}
+use Rattle.mr_layout.proofs.Common.{ℕ, ◌+◌, List, get_or, drop, ap, arith, drop_more, drop_all, is_in, is_in_chunk}
 use Rattle.mr_layout.proofs.TableLaws.{marks_chunk, owes_whole, owes_next, owes_none}
 use Rattle.mr_layout.proofs.tables.mark_chunks.Goals as goal
 

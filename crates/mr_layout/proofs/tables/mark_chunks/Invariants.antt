@@ -1,5 +1,4 @@
-use Rattle.std.proofs.Common.{drop}
-use Rattle.mr_layout.specs.Used.{is_in_chunk}
+use Rattle.mr_layout.proofs.Common.{drop, is_in_chunk}
 use Rattle.mr_layout.proofs.TableLaws.{Owes}
 use Rattle.mr_layout.proofs.tables.mark_chunks.Given as goal
 

@@ -1,5 +1,4 @@
-use Rattle.std.proofs.Common.{arith}
-use Rattle.mr_layout.specs.Marks.{is_mark}
+use Rattle.mr_layout.proofs.Common.{arith, is_mark}
 use Rattle.mr_layout.proofs.TableLaws.{marks_nothing, marks_max, marks_over}
 use Rattle.mr_layout.proofs.tables.mark_over.Goals as goal
 

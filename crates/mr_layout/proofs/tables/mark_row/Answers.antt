@@ -1,5 +1,4 @@
-use Rattle.std.proofs.Common.{ℕ, List, subst}
-use Rattle.mr_layout.specs.Tables.{Marks, is_first, is_row_mark}
+use Rattle.mr_layout.proofs.Common.{ℕ, List, subst, Marks, is_first, is_row_mark}
 use Rattle.mr_layout.proofs.TableLaws.{full_row, marks_alike, marks_row, marks_wide}
 use Rattle.mr_layout.proofs.tables.mark_row.Goals as goal
 

@@ -1,5 +1,4 @@
-use Rattle.std.proofs.Common.{◌+◌, length}
-use Rattle.std.proofs.Math.Nat.{mod-eq_of_lt}
+use Rattle.mr_layout.proofs.Common.{◌+◌, length, mod-eq_of_lt}
 use Rattle.mr_layout.proofs.TableLaws.{marks_max, rows_none, rows_next, rows_all, whole_next}
 use Rattle.mr_layout.proofs.tables.mark_rows.Goals as goal
 

@@ -1,6 +1,4 @@
-use Rattle.std.proofs.Common.{◌≡◌, ◌-◌, ◌%◌, length}
-use Rattle.std.specs.Prelude.{nat_lt, ◌&&◌}
-use Rattle.mr_layout.specs.Tables.{Marks, is_row_mark}
+use Rattle.mr_layout.proofs.Common.{◌≡◌, ◌-◌, ◌%◌, length, nat_lt, ◌&&◌, Marks, is_row_mark}
 use Rattle.mr_layout.proofs.tables.mark_rows.Given as goal
 
 abbrev pub invariant-loop-done : goal.invariant-loop-done

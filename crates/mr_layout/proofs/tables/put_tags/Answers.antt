@@ -1,7 +1,4 @@
-use Rattle.std.proofs.Common.{◌+◌, false, get_or, drop, refl, ◌∙◌}
-use Rattle.std.proofs.lemmas.List.{drop_more, drop_all}
-use Rattle.mr_ast.specs.declared.types.IntType.TheVariants.{U8}
-use Rattle.mr_ast.specs.declared.types.Tag.{Tag}
+use Rattle.mr_layout.proofs.Common.{◌+◌, false, get_or, drop, refl, ◌∙◌, drop_more, drop_all, U8, Tag}
 use Rattle.mr_layout.proofs.TableLaws.{tags_next, tags_none}
 use Rattle.mr_layout.proofs.tables.put_tags.Goals as goal
 

@@ -1,4 +1,4 @@
-use Rattle.std.proofs.Common.{◌≡◌, ℕ, ◌<◌, length, drop}
+use Rattle.mr_layout.proofs.Common.{◌≡◌, ℕ, ◌<◌, length, drop}
 use Rattle.mr_layout.proofs.TableLaws.{with_tags}
 use Rattle.mr_layout.proofs.tables.put_tags.Given as goal
 

@@ -1,6 +1,5 @@
-use Rattle.std.proofs.Common.{◌≡◌, ◌++◌, ◌+◌, ◌%◌, length, ap, ◌∙◌, arith}
+use Rattle.mr_layout.proofs.Common.{◌≡◌, ◌++◌, ◌+◌, ◌%◌, length, ap, ◌∙◌, arith, length-append}
 use Rattle.std.proofs.Math.Nat.{mod_self}
-use Rattle.std.proofs.lemmas.List.{length-append}
 use Rattle.mr_layout.proofs.TableLaws.{repeated_once, repeated_next, whole_next}
 use Rattle.mr_layout.proofs.tables.repeated.Goals as goal
 

@@ -1,4 +1,4 @@
-use Rattle.std.proofs.Common.{◌≡◌, ◌+◌, ◌-◌, ◌%◌, ℕ, ◌<◌, ◌≤◌, length, slice_index}
+use Rattle.mr_layout.proofs.Common.{◌≡◌, ◌+◌, ◌-◌, ◌%◌, ℕ, ◌<◌, ◌≤◌, length, slice_index}
 use Rattle.mr_layout.proofs.tables.repeated.Given as goal
 
 abbrev pub invariant-loop-wide : goal.invariant-loop-wide

@@ -1,5 +1,4 @@
-use Rattle.std.proofs.Common.{◌≡◌, ℕ, ◌%◌, ◌<◌, List, length, slice_index, sym, subst}
-use Rattle.std.proofs.lemmas.Result.{IfOk-weaker}
+use Rattle.mr_layout.proofs.Common.{◌≡◌, ℕ, ◌%◌, ◌<◌, List, length, slice_index, sym, subst, IfOk-weaker}
 use Rattle.mr_layout.proofs.TableLaws.{repeated_twice, whole_twice}
 use Rattle.mr_layout.proofs.tables.widened.Goals as goal
 

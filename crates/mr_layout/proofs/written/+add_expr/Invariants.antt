@@ -1,5 +1,4 @@
-use Rattle.std.proofs.Common.{◌≡◌, ◌++◌, take}
-use Rattle.mr_layout.specs.Written.{types_of_values}
+use Rattle.mr_layout.proofs.Common.{◌≡◌, ◌++◌, take, types_of_values}
 use Rattle.mr_layout.proofs.written.+add_expr.Given as goal
 
 abbrev pub invariant-add_values-loop-value : goal.invariant-add_values-loop-value

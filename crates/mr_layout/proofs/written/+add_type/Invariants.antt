@@ -1,5 +1,4 @@
-use Rattle.std.proofs.Common.{◌≡◌, ◌++◌, take}
-use Rattle.mr_layout.specs.Written.{types_of_fields, types_of_variants}
+use Rattle.mr_layout.proofs.Common.{◌≡◌, ◌++◌, take, types_of_fields, types_of_variants}
 use Rattle.mr_layout.proofs.written.+add_type.Given as goal
 
 abbrev pub invariant-add_fields-loop-field : goal.invariant-add_fields-loop-field

@@ -1,5 +1,4 @@
-use Rattle.std.proofs.Common.{◌≡◌, ◌++◌, take}
-use Rattle.std.specs.List.{flat_map}
+use Rattle.mr_layout.proofs.Common.{◌≡◌, ◌++◌, take, flat_map}
 use Rattle.mr_layout.specs.Written.{types_of_block}
 use Rattle.mr_layout.proofs.written.add_function.Given as goal
 

@@ -1,4 +1,4 @@
-use Rattle.std.proofs.Common.{◌≡◌, ◌++◌, take}
+use Rattle.mr_layout.proofs.Common.{◌≡◌, ◌++◌, take}
 use Rattle.mr_layout.specs.Written.{types_of_locals}
 use Rattle.mr_layout.proofs.written.add_locals.Given as goal
 

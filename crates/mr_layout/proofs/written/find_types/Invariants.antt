@@ -1,5 +1,4 @@
-use Rattle.std.proofs.Common.{◌≡◌, take}
-use Rattle.std.specs.List.{flat_map}
+use Rattle.mr_layout.proofs.Common.{◌≡◌, take, flat_map}
 use Rattle.mr_layout.specs.Written.{types_of_function}
 use Rattle.mr_layout.proofs.written.find_types.Given as goal
 

@@ -1,4 +1,4 @@
-use Rattle.std.proofs.Common.{arith}
+use Rattle.mr_lex.proofs.Common.{arith}
 use Rattle.std.proofs.lemmas.Grind.{common_steps}
 use Rattle.mr_lex.proofs.NumberLaws.{number_of_more}
 use Rattle.mr_lex.proofs.number.value_of.Goals as goal

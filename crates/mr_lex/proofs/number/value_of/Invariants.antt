@@ -1,5 +1,4 @@
-use Rattle.std.proofs.Common.{◌≡◌, ◌^◌, ◌<◌, take}
-use Rattle.mr_lex.specs.Numbers.{number_of}
+use Rattle.mr_lex.proofs.Common.{◌≡◌, ◌^◌, ◌<◌, take, number_of}
 use Rattle.mr_lex.proofs.number.value_of.Given as goal
 
 abbrev pub invariant-loop-digit : goal.invariant-loop-digit

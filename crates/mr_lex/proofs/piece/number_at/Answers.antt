@@ -1,6 +1,4 @@
-use Rattle.std.proofs.Common.{sym, subst, take}
-use Rattle.std.specs.List.{AllPass}
-use Rattle.mr_lex.specs.Bytes.{is_digit}
+use Rattle.mr_lex.proofs.Common.{sym, subst, take, AllPass, is_digit}
 use Rattle.mr_lex.proofs.RunLaws.{take_while_passes}
 use Rattle.mr_lex.proofs.piece.number_at.Goals as goal
 

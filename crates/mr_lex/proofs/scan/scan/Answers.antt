@@ -1,6 +1,4 @@
-use Rattle.std.proofs.Common.{sym, ap, ◌∙◌, subst, inr, arith}
-use Rattle.std.specs.Prelude.{Ok, Err}
-use Rattle.mr_lex.specs.Reading.{lexed, Gives}
+use Rattle.mr_lex.proofs.Common.{sym, ap, ◌∙◌, subst, inr, arith, Ok, Err, lexed, Gives}
 use Rattle.mr_lex.proofs.ReadingLaws.{lexes_lexed, fault_lexed}
 use Rattle.mr_lex.proofs.ScanLaws.{is_next, scanned_next, scanned_lexes, scanned_stops}
 use Rattle.mr_lex.proofs.scan.scan.Goals as goal

@@ -1,4 +1,4 @@
-use Rattle.std.proofs.Common.{length, ◌-◌}
+use Rattle.mr_lex.proofs.Common.{length, ◌-◌}
 use Rattle.mr_lex.proofs.ScanLaws.{IsScanned}
 use Rattle.mr_lex.proofs.scan.scan.Given as goal
 

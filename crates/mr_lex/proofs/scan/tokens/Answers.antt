@@ -1,4 +1,4 @@
-use Rattle.std.proofs.Common.{refl, inl}
+use Rattle.mr_lex.proofs.Common.{refl, inl}
 use Rattle.mr_lex.proofs.AnswerLaws.{gives_lexes, gives_in_order, gives_only, gives_fault, gives_first}
 use Rattle.mr_lex.proofs.ReadingLaws.{fault_lexed}
 use Rattle.mr_lex.proofs.scan.tokens.Goals as goal

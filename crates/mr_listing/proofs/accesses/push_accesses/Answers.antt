@@ -1,8 +1,4 @@
-use Rattle.std.proofs.Common.{◌∙◌, arith}
-use Rattle.std.specs.Prelude.{option_copied}
-use Rattle.mr_labels.proofs.Growing.{appended_next}
-use Rattle.mr_listing.specs.Accesses.{line_at}
-use Rattle.mr_listing.specs.Seen.{seen}
+use Rattle.mr_listing.proofs.Common.{◌∙◌, arith, option_copied, appended_next, line_at, seen}
 use Rattle.mr_listing.proofs.accesses.push_accesses.Goals as goal
 
 pub loop-at-preserved : goal.loop-at-preserved

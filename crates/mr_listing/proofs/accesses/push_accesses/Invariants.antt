@@ -1,7 +1,4 @@
-use Rattle.std.specs.Prelude.{◌≡◌, ◌++◌, flat_map, option_copied}
-use Rattle.std.specs.List.{range_with_len}
-use Rattle.mr_listing.specs.Accesses.{line_at}
-use Rattle.mr_listing.specs.Seen.{seen}
+use Rattle.mr_listing.proofs.Common.{◌≡◌, ◌++◌, flat_map, option_copied, range_with_len, line_at, seen}
 use Rattle.mr_listing.proofs.accesses.push_accesses.Given as goal
 
 -- the accesses before this one have their lines

@@ -1,5 +1,4 @@
-use Rattle.std.proofs.Common.{ℕ, [], ◌∷◌, ◌++◌, ◌∙◌, ap}
-use Rattle.std.specs.Prelude.{codes, decimal}
+use Rattle.mr_listing.proofs.Common.{ℕ, [], ◌∷◌, ◌++◌, ◌∙◌, ap, codes, decimal}
 use Rattle.mr_listing.proofs.Appended.{behind}
 use Rattle.mr_listing.proofs.events.push_start.Goals as goal
 

@@ -1,4 +1,4 @@
-use Rattle.std.specs.Prelude.{◌≡◌, ◌++◌, flat_map, take}
+use Rattle.mr_listing.proofs.Common.{◌≡◌, ◌++◌, flat_map, take}
 use Rattle.mr_listing.specs.Events.{woken_line}
 use Rattle.mr_listing.proofs.events.push_woken.Given as goal
 

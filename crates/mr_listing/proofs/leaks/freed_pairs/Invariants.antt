@@ -1,5 +1,4 @@
-use Rattle.std.specs.Prelude.{◌≡◌, take}
-use Rattle.mr_listing.specs.Freed.{freed_pairs}
+use Rattle.mr_listing.proofs.Common.{◌≡◌, take, freed_pairs}
 use Rattle.mr_listing.proofs.leaks.freed_pairs.Given as goal
 
 -- what the steps before this one freed was added

@@ -1,5 +1,4 @@
-use Rattle.std.proofs.Common.{◌∙◌, ap}
-use Rattle.std.specs.List.{list_any}
+use Rattle.mr_listing.proofs.Common.{◌∙◌, ap, list_any}
 use Rattle.mr_base.specs.Pairs.{same_pair}
 use Rattle.mr_listing.proofs.FreedLaws.{freed_is_among}
 use Rattle.mr_listing.proofs.leaks.is_freed.Goals as goal

@@ -1,6 +1,5 @@
-use Rattle.std.specs.Prelude.{◌≡◌, ◌++◌, flat_map, take}
+use Rattle.mr_listing.proofs.Common.{◌≡◌, ◌++◌, flat_map, take, seen}
 use Rattle.mr_listing.specs.Leaks.{leak_line}
-use Rattle.mr_listing.specs.Seen.{seen}
 use Rattle.mr_listing.proofs.leaks.push_each_leak.Given as goal
 
 -- the allocations before this one were looked at

@@ -1,5 +1,4 @@
-use Rattle.std.specs.Prelude.{◌≡◌, ◌++◌, map, take}
-use Rattle.mr_listing.specs.Freed.{id_pair}
+use Rattle.mr_listing.proofs.Common.{◌≡◌, ◌++◌, map, take, id_pair}
 use Rattle.mr_listing.proofs.leaks.push_ids.Given as goal
 
 -- the identities before this one were added

@@ -1,5 +1,4 @@
-use Rattle.std.proofs.Common.{◌++◌, ◌∷◌, [], ◌∙◌, ap, append_assoc}
-use Rattle.std.specs.Prelude.{codes}
+use Rattle.mr_listing.proofs.Common.{◌++◌, ◌∷◌, [], ◌∙◌, ap, append_assoc, codes}
 use Rattle.mr_listing.proofs.listing.push_print.Goals as goal
 
 pub returns : goal.returns

@@ -1,4 +1,4 @@
-use Rattle.mr_listing.specs.Steps.{print_line}
+use Rattle.mr_listing.proofs.Common.{print_line}
 use Rattle.mr_listing.proofs.Appended.{read_behind}
 use Rattle.mr_listing.proofs.listing.push_prints.Goals as goal
 

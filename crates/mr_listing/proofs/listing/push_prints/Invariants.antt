@@ -1,5 +1,4 @@
-use Rattle.std.specs.Prelude.{◌≡◌, ◌++◌, flat_map, take}
-use Rattle.mr_listing.specs.Steps.{print_line}
+use Rattle.mr_listing.proofs.Common.{◌≡◌, ◌++◌, flat_map, take, print_line}
 use Rattle.mr_listing.proofs.listing.push_prints.Given as goal
 
 -- the prints before this one have their lines

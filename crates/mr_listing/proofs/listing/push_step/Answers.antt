@@ -1,12 +1,8 @@
-use Rattle.std.proofs.Common.{◌++◌, ◌∙◌, ap, ap₂}
-use Rattle.std.specs.Prelude.{Option, flat_map, slice_get}
+use Rattle.mr_listing.proofs.Common.{◌++◌, ◌∙◌, ap, ap₂, Option, flat_map, slice_get, List, partner_line, partners_at, seen, print_line}
 use Rattle.mr_event.specs.Footprint.{Footprint}
 use Rattle.mr_report.specs.declared.report.Line.{Line}
-use Rattle.std.proofs.Common.{List}
-use Rattle.mr_listing.specs.Partners.{partner_line, partners_at}
 use Rattle.mr_listing.specs.declared.held.StepValues.{StepValues}
-use Rattle.mr_listing.specs.Seen.{seen}
-use Rattle.mr_listing.specs.Steps.{foot_text, head_line, print_line, printed_by}
+use Rattle.mr_listing.specs.Steps.{foot_text, head_line, printed_by}
 use Rattle.mr_listing.proofs.Appended.{behind, last_behind}
 use Rattle.mr_listing.proofs.listing.push_step.Goals as goal
 

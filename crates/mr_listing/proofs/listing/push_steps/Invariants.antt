@@ -1,5 +1,4 @@
-use Rattle.std.specs.Prelude.{◌≡◌, ◌++◌, flat_map, take}
-use Rattle.mr_listing.specs.Seen.{seen}
+use Rattle.mr_listing.proofs.Common.{◌≡◌, ◌++◌, flat_map, take, seen}
 use Rattle.mr_listing.specs.Steps.{step_text}
 use Rattle.mr_listing.proofs.listing.push_steps.Given as goal
 

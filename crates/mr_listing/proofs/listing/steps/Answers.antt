@@ -1,7 +1,4 @@
-use Rattle.std.proofs.Common.{List, subst, sym}
-use Rattle.mr_listing.specs.declared.partners.Partner.{Partner}
-use Rattle.mr_listing.specs.Partners.{ArePartners}
-use Rattle.mr_listing.specs.Seen.{seen}
+use Rattle.mr_listing.proofs.Common.{List, subst, sym, Partner, ArePartners, seen}
 use Rattle.mr_listing.proofs.listing.steps.Goals as goal
 
 pub push_steps-requires : goal.push_steps-requires

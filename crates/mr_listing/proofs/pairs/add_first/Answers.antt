@@ -1,8 +1,4 @@
-use Rattle.std.proofs.Common.{◌≡◌, ◌++◌, ◌∙◌, ap, append-nil, subst, sym}
-use Rattle.std.specs.Prelude.{OnOk, Option}
-use Rattle.mr_event.specs.declared.footprint.Pair.{Pair}
-use Rattle.mr_listing.specs.Races.{first_group}
-use Rattle.mr_listing.specs.Seen.{seen}
+use Rattle.mr_listing.proofs.Common.{◌≡◌, ◌++◌, ◌∙◌, ap, append-nil, subst, sym, OnOk, Option, Pair, first_group, seen}
 use Rattle.mr_listing.proofs.pairs.add_first.Goals as goal
 
 pub returns-in-Some : goal.returns-in-Some

@@ -1,5 +1,4 @@
-use Rattle.std.proofs.Common.{◌∙◌, refl, sym}
-use Rattle.mr_listing.specs.Seen.{seen}
+use Rattle.mr_listing.proofs.Common.{◌∙◌, refl, sym, seen}
 use Rattle.mr_listing.proofs.AlikeLaws.{none_added, none_begun, one_added}
 use Rattle.mr_listing.proofs.pairs.add_group.Goals as goal
 

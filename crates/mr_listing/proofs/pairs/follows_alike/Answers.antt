@@ -1,6 +1,5 @@
-use Rattle.std.proofs.Common.{◌-◌, ◌∙◌, arith, sym}
-use Rattle.mr_listing.specs.Races.{same_places}
-use Rattle.mr_listing.specs.Seen.{seen}
+use Rattle.mr_listing.proofs.Common.{◌∙◌, arith, sym, same_places, seen}
+use Rattle.std.proofs.Common.{◌-◌}
 use Rattle.mr_listing.proofs.AlikeLaws.{any_taken}
 use Rattle.mr_listing.proofs.pairs.follows_alike.Goals as goal
 

@@ -1,7 +1,4 @@
-use Rattle.std.proofs.Common.{◌∙◌, [], arith}
-use Rattle.mr_listing.specs.Races.{numbered_group}
-use Rattle.mr_listing.specs.Seen.{seen}
-use Rattle.mr_labels.proofs.Growing.{appended_next}
+use Rattle.mr_listing.proofs.Common.{◌∙◌, [], arith, numbered_group, seen, appended_next}
 use Rattle.mr_listing.proofs.pairs.groups_in.Goals as goal
 
 pub loop-number-preserved : goal.loop-number-preserved

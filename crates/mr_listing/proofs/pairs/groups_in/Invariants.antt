@@ -1,7 +1,4 @@
-use Rattle.std.specs.Prelude.{◌≡◌, flat_map}
-use Rattle.std.specs.List.{range_with_len}
-use Rattle.mr_listing.specs.Races.{numbered_group}
-use Rattle.mr_listing.specs.Seen.{seen}
+use Rattle.mr_listing.proofs.Common.{◌≡◌, flat_map, range_with_len, numbered_group, seen}
 use Rattle.mr_listing.proofs.pairs.groups_in.Given as goal
 
 -- the races before this one were grouped

@@ -1,6 +1,5 @@
-use Rattle.std.specs.Prelude.{◌≡◌, ◌++◌, flat_map, take}
+use Rattle.mr_listing.proofs.Common.{◌≡◌, ◌++◌, flat_map, take, seen}
 use Rattle.mr_listing.specs.Races.{group_line}
-use Rattle.mr_listing.specs.Seen.{seen}
 use Rattle.mr_listing.proofs.pairs.push_each_group.Given as goal
 
 -- the groups before this one have their lines

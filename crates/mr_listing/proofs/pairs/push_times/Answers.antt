@@ -1,5 +1,4 @@
-use Rattle.std.proofs.Common.{◌+◌, [], ◌∷◌, ◌++◌}
-use Rattle.std.specs.Prelude.{decimal}
+use Rattle.mr_listing.proofs.Common.{◌+◌, [], ◌∷◌, ◌++◌, decimal}
 use Rattle.mr_listing.specs.Races.{often_text}
 use Rattle.mr_listing.proofs.Appended.{behind}
 use Rattle.mr_listing.proofs.pairs.push_times.Goals as goal

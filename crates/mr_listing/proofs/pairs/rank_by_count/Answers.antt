@@ -1,10 +1,7 @@
-use Rattle.std.proofs.Common.{rules}
+use Rattle.mr_listing.proofs.Common.{rules, ranks_by, IsStrictWeakOrder, is_lt, nat_cmp, Group}
 use Rattle.std.proofs.lemmas.Cmp.{nat_cmp_total}
 use Rattle.std.proofs.lemmas.Fn.{always_returns_same}
-use Rattle.std.proofs.lemmas.List.Sorted.{IsStrictWeakOrder-flip, ranks_by}
-use Rattle.std.specs.Cmp.{IsStrictWeakOrder}
-use Rattle.std.specs.Ordering.{is_lt, nat_cmp}
-use Rattle.mr_listing.specs.declared.pairs.Group.{Group}
+use Rattle.std.proofs.lemmas.List.Sorted.{IsStrictWeakOrder-flip}
 use Rattle.mr_listing.proofs.RankLaws.{comes_first, ranked_by_sort}
 use Rattle.mr_listing.proofs.pairs.rank_by_count.Goals as goal
 

@@ -1,8 +1,4 @@
-use Rattle.std.proofs.Common.{◌≤◌, ◌∙◌, ap, length, List, subst, sym}
-use Rattle.std.specs.Prelude.{All}
-use Rattle.mr_listing.specs.declared.pairs.Group.{Group}
-use Rattle.mr_listing.specs.Races.{by_count}
-use Rattle.mr_listing.specs.Seen.{seen}
+use Rattle.mr_listing.proofs.Common.{◌≤◌, ◌∙◌, ap, length, List, subst, sym, All, Group, by_count, seen}
 use Rattle.mr_listing.proofs.GroupLaws.{few_races}
 use Rattle.mr_listing.proofs.pairs.ranked.Goals as goal
 

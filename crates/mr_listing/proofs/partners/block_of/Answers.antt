@@ -1,10 +1,5 @@
-use Rattle.std.proofs.Common.{◌∙◌, ap}
+use Rattle.mr_listing.proofs.Common.{◌∙◌, ap, nat_le, nat_lt, not, filter, IsNonDecreasingBy, List, subst, sym, Partner}
 use Rattle.std.proofs.lemmas.List.Kept.{IsNonDecreasingBy-filter}
-use Rattle.std.specs.Prelude.{nat_le, nat_lt, not}
-use Rattle.std.specs.List.{filter}
-use Rattle.std.specs.List.Sorted.{IsNonDecreasingBy}
-use Rattle.std.proofs.Common.{List, subst, sym}
-use Rattle.mr_listing.specs.declared.partners.Partner.{Partner}
 use Rattle.mr_listing.proofs.PartnerLaws.{of_one_step}
 use Rattle.mr_listing.proofs.partners.block_of.Goals as goal
 

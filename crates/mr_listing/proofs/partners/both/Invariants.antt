@@ -1,4 +1,4 @@
-use Rattle.std.specs.Prelude.{◌≡◌, flat_map, take}
+use Rattle.mr_listing.proofs.Common.{◌≡◌, flat_map, take}
 use Rattle.mr_listing.specs.Partners.{both_of}
 use Rattle.mr_listing.proofs.partners.both.Given as goal
 

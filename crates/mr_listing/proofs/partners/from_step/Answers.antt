@@ -1,8 +1,4 @@
-use Rattle.std.proofs.Common.{◌∙◌, arith, rules}
-use Rattle.std.specs.Prelude.{nat_lt}
-use Rattle.std.proofs.lemmas.List.{take_rest}
-use Rattle.std.proofs.lemmas.List.Sorted.{IsPartitionPoint-from_clause, IsPartitionedBy-ltb}
-use Rattle.mr_listing.specs.declared.partners.Partner.{Partner}
+use Rattle.mr_listing.proofs.Common.{◌∙◌, arith, rules, nat_lt, take_rest, IsPartitionPoint-from_clause, IsPartitionedBy-ltb, Partner}
 use Rattle.mr_listing.proofs.PartnerLaws.{failing}
 use Rattle.mr_listing.proofs.partners.from_step.Goals as goal
 

@@ -1,6 +1,5 @@
-use Rattle.std.proofs.Common.{rules}
+use Rattle.mr_listing.proofs.Common.{rules, Partner}
 use Rattle.std.proofs.lemmas.List.Sorted.{IsNonDecreasingBy-from_sort_by_key, answers_always}
-use Rattle.mr_listing.specs.declared.partners.Partner.{Partner}
 use Rattle.mr_listing.proofs.PartnerLaws.{sorted_partners}
 use Rattle.mr_listing.proofs.partners.partners_of.Goals as goal
 

@@ -1,4 +1,4 @@
-use Rattle.mr_listing.specs.Partners.{partner_line}
+use Rattle.mr_listing.proofs.Common.{partner_line}
 use Rattle.mr_listing.proofs.Appended.{line_behind}
 use Rattle.mr_listing.proofs.partners.push_block.Goals as goal
 

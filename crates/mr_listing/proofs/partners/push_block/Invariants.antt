@@ -1,5 +1,4 @@
-use Rattle.std.specs.Prelude.{◌≡◌, ◌++◌, flat_map, take}
-use Rattle.mr_listing.specs.Partners.{partner_line}
+use Rattle.mr_listing.proofs.Common.{◌≡◌, ◌++◌, flat_map, take, partner_line}
 use Rattle.mr_listing.proofs.partners.push_block.Given as goal
 
 -- the partners before this one have their lines

@@ -1,5 +1,4 @@
-use Rattle.std.proofs.Common.{◌+◌, ◌++◌, ◌∷◌, [], ◌∙◌, ap, append_assoc}
-use Rattle.std.specs.Prelude.{codes, decimal}
+use Rattle.mr_listing.proofs.Common.{◌+◌, ◌++◌, ◌∷◌, [], ◌∙◌, ap, append_assoc, codes, decimal}
 use Rattle.mr_listing.proofs.partners.push_partner.Goals as goal
 
 pub returns : goal.returns

@@ -1,7 +1,4 @@
-use Rattle.std.proofs.Common.{◌≡◌, ◌∙◌, ◌++◌, List, subst}
-use Rattle.std.specs.Prelude.{OnOk, flat_map}
-use Rattle.mr_listing.specs.declared.partners.Partner.{Partner}
-use Rattle.mr_listing.specs.Partners.{partner_line}
+use Rattle.mr_listing.proofs.Common.{◌≡◌, ◌∙◌, ◌++◌, List, subst, OnOk, flat_map, Partner, partner_line}
 use Rattle.mr_listing.proofs.partners.push_partners.Goals as goal
 
 pub block_of-requires : goal.block_of-requires

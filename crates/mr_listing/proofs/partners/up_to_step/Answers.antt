@@ -1,7 +1,4 @@
-use Rattle.std.proofs.Common.{arith, rules}
-use Rattle.std.specs.Prelude.{nat_le}
-use Rattle.std.proofs.lemmas.List.Sorted.{IsPartitionPoint-from_clause, IsPartitionedBy-leb}
-use Rattle.mr_listing.specs.declared.partners.Partner.{Partner}
+use Rattle.mr_listing.proofs.Common.{arith, rules, nat_le, IsPartitionPoint-from_clause, IsPartitionedBy-leb, Partner}
 use Rattle.mr_listing.proofs.PartnerLaws.{passing}
 use Rattle.mr_listing.proofs.partners.up_to_step.Goals as goal
 

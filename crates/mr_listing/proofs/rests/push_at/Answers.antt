@@ -1,5 +1,4 @@
-use Rattle.std.specs.Prelude.{Some, codes}
-use Rattle.mr_listing.specs.Seen.{seen}
+use Rattle.mr_listing.proofs.Common.{Some, codes, seen}
 use Rattle.mr_listing.specs.Spots.{stand_text}
 use Rattle.mr_listing.proofs.Appended.{last_behind}
 use Rattle.mr_listing.proofs.rests.push_at.Goals as goal

@@ -1,7 +1,5 @@
-use Rattle.std.proofs.Common.{◌∙◌, arith}
+use Rattle.mr_listing.proofs.Common.{◌∙◌, arith, seen, appended_next}
 use Rattle.mr_listing.specs.Rests.{numbered_rest}
-use Rattle.mr_listing.specs.Seen.{seen}
-use Rattle.mr_labels.proofs.Growing.{appended_next}
 use Rattle.mr_listing.proofs.rests.push_each_rest.Goals as goal
 
 pub loop-thread-preserved : goal.loop-thread-preserved

@@ -1,7 +1,5 @@
-use Rattle.std.specs.Prelude.{◌≡◌, ◌++◌, flat_map}
-use Rattle.std.specs.List.{range_with_len}
+use Rattle.mr_listing.proofs.Common.{◌≡◌, ◌++◌, flat_map, range_with_len, seen}
 use Rattle.mr_listing.specs.Rests.{numbered_rest}
-use Rattle.mr_listing.specs.Seen.{seen}
 use Rattle.mr_listing.proofs.rests.push_each_rest.Given as goal
 
 -- the threads before this one have their lines

@@ -1,9 +1,7 @@
-use Rattle.std.proofs.Common.{◌∙◌, ap, sym, ◌++◌, append-nil}
+use Rattle.mr_listing.proofs.Common.{◌∙◌, ap, sym, ◌++◌, append-nil, Option, seen}
 use Rattle.std.proofs.lemmas.Option.{slice_get_past}
-use Rattle.std.specs.Prelude.{Option}
 use Rattle.mr_labels.specs.declared.step.Rest.{Rest}
 use Rattle.mr_listing.specs.Rests.{rest_told}
-use Rattle.mr_listing.specs.Seen.{seen}
 use Rattle.mr_listing.proofs.rests.push_numbered_rest.Goals as goal
 
 pub returns-in-None : goal.returns-in-None

@@ -1,11 +1,5 @@
-use Rattle.std.proofs.Common.{◌∙◌, List, ap, subst, sym}
+use Rattle.mr_listing.proofs.Common.{◌∙◌, List, ap, subst, sym, nat_le, nat_lt, not, filter, IsNonDecreasingBy, seen, place_index, Numbered}
 use Rattle.std.proofs.lemmas.List.Kept.{IsNonDecreasingBy-filter}
-use Rattle.std.specs.Prelude.{nat_le, nat_lt, not}
-use Rattle.std.specs.List.{filter}
-use Rattle.std.specs.List.Sorted.{IsNonDecreasingBy}
-use Rattle.mr_listing.specs.Seen.{seen}
-use Rattle.mr_listing.specs.Sorted.{place_index}
-use Rattle.mr_listing.specs.declared.sorted.Numbered.{Numbered}
 use Rattle.mr_listing.proofs.AlikeLaws.{of_one_place}
 use Rattle.mr_listing.proofs.sorted.alike_races.Goals as goal
 

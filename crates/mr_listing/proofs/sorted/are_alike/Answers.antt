@@ -1,6 +1,4 @@
-use Rattle.std.proofs.Common.{◌∙◌, ap}
-use Rattle.std.specs.Ordering.{is_eq}
-use Rattle.mr_listing.specs.Seen.{seen}
+use Rattle.mr_listing.proofs.Common.{◌∙◌, ap, is_eq, seen}
 use Rattle.mr_listing.proofs.AlikeLaws.{eq_places}
 use Rattle.mr_listing.proofs.sorted.are_alike.Goals as goal
 

@@ -1,6 +1,5 @@
-use Rattle.std.proofs.Common.{rules}
+use Rattle.mr_listing.proofs.Common.{rules, seen}
 use Rattle.std.proofs.lemmas.Fn.{always_returns_same}
-use Rattle.mr_listing.specs.Seen.{seen}
 use Rattle.mr_listing.proofs.AlikeLaws.{lies_first, lies_in_order, sorted_races}
 use Rattle.mr_listing.proofs.sorted.by_places.Goals as goal
 

@@ -1,4 +1,4 @@
-use Rattle.mr_listing.specs.Seen.{seen}
+use Rattle.mr_listing.proofs.Common.{seen}
 use Rattle.mr_listing.proofs.AlikeLaws.{count_alike}
 use Rattle.mr_listing.proofs.sorted.count_at.Goals as goal
 

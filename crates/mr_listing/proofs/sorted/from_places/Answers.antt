@@ -1,10 +1,4 @@
-use Rattle.std.proofs.Common.{◌∙◌, arith, rules}
-use Rattle.std.specs.Prelude.{nat_lt}
-use Rattle.std.proofs.lemmas.List.{take_rest}
-use Rattle.std.proofs.lemmas.List.Sorted.{IsPartitionPoint-from_clause, IsPartitionedBy-ltb}
-use Rattle.mr_listing.specs.Seen.{seen}
-use Rattle.mr_listing.specs.Sorted.{place_index}
-use Rattle.mr_listing.specs.declared.sorted.Numbered.{Numbered}
+use Rattle.mr_listing.proofs.Common.{◌∙◌, arith, rules, nat_lt, take_rest, IsPartitionPoint-from_clause, IsPartitionedBy-ltb, seen, place_index, Numbered}
 use Rattle.mr_listing.proofs.PartnerLaws.{failing}
 use Rattle.mr_listing.proofs.sorted.from_places.Goals as goal
 

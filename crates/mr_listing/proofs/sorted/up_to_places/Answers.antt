@@ -1,9 +1,4 @@
-use Rattle.std.proofs.Common.{arith, rules}
-use Rattle.std.specs.Prelude.{nat_le}
-use Rattle.std.proofs.lemmas.List.Sorted.{IsPartitionPoint-from_clause, IsPartitionedBy-leb}
-use Rattle.mr_listing.specs.Seen.{seen}
-use Rattle.mr_listing.specs.Sorted.{place_index}
-use Rattle.mr_listing.specs.declared.sorted.Numbered.{Numbered}
+use Rattle.mr_listing.proofs.Common.{arith, rules, nat_le, IsPartitionPoint-from_clause, IsPartitionedBy-leb, seen, place_index, Numbered}
 use Rattle.mr_listing.proofs.PartnerLaws.{passing}
 use Rattle.mr_listing.proofs.sorted.up_to_places.Goals as goal
 

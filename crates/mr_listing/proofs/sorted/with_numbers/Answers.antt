@@ -1,5 +1,4 @@
-use Rattle.std.proofs.Common.{◌≡◌, arith, length}
-use Rattle.mr_event.specs.declared.footprint.Pair.{Pair}
+use Rattle.mr_listing.proofs.Common.{◌≡◌, arith, length, Pair}
 use Rattle.mr_listing.proofs.AlikeLaws.{one_more}
 use Rattle.mr_listing.proofs.sorted.with_numbers.Goals as goal
 

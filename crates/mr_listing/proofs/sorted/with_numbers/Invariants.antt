@@ -1,5 +1,4 @@
-use Rattle.std.specs.Prelude.{◌≡◌, take}
-use Rattle.mr_listing.specs.Sorted.{with_numbers}
+use Rattle.mr_listing.proofs.Common.{◌≡◌, take, with_numbers}
 use Rattle.mr_listing.proofs.sorted.with_numbers.Given as goal
 
 -- the races before this one have their numbers

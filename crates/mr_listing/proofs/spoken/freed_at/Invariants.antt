@@ -1,4 +1,4 @@
-use Rattle.std.specs.Prelude.{◌≡◌, drop}
+use Rattle.mr_listing.proofs.Common.{◌≡◌, drop}
 use Rattle.mr_listing.specs.Spoken.{freed_from}
 use Rattle.mr_listing.proofs.spoken.freed_at.Given as goal
 

@@ -1,4 +1,4 @@
-use Rattle.std.specs.Prelude.{◌+◌, codes, decimal}
+use Rattle.mr_listing.proofs.Common.{◌+◌, codes, decimal}
 use Rattle.mr_listing.proofs.Appended.{behind}
 use Rattle.mr_listing.proofs.spoken.push_freeing.Goals as goal
 

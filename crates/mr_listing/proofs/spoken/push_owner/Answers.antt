@@ -1,7 +1,4 @@
-use Rattle.std.proofs.Common.{◌∙◌, List, ℕ, ap}
-use Rattle.std.specs.Prelude.{◌++◌, None, codes}
-use Rattle.mr_listing.specs.Accesses.{bytes_text}
-use Rattle.mr_listing.specs.Seen.{seen}
+use Rattle.mr_listing.proofs.Common.{◌∙◌, List, ℕ, ap, ◌++◌, None, codes, bytes_text, seen}
 use Rattle.mr_listing.specs.Spoken.{freed_from, freed_text, held_bytes}
 use Rattle.mr_labels.specs.Words.{name_text}
 use Rattle.mr_listing.proofs.Appended.{behind}

@@ -1,6 +1,4 @@
-use Rattle.std.proofs.Common.{List, ℕ}
-use Rattle.std.specs.Prelude.{◌++◌, codes, decimal}
-use Rattle.mr_listing.specs.Accesses.{bytes_text}
+use Rattle.mr_listing.proofs.Common.{List, ℕ, ◌++◌, codes, decimal, bytes_text}
 use Rattle.mr_listing.specs.Spoken.{doing_word}
 use Rattle.mr_listing.proofs.Appended.{behind}
 use Rattle.mr_listing.proofs.spoken.push_spoken_text.Goals as goal

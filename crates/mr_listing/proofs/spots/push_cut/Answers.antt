@@ -1,4 +1,4 @@
-use Rattle.std.proofs.Common.{◌++◌, ◌∙◌, ap, min, take}
+use Rattle.mr_listing.proofs.Common.{◌++◌, ◌∙◌, ap, min, take}
 use Rattle.mr_listing.specs.Spots.{behind_front}
 use Rattle.mr_listing.proofs.Appended.{last_behind}
 use Rattle.mr_listing.proofs.spots.push_cut.Goals as goal

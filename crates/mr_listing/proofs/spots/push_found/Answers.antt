@@ -1,7 +1,4 @@
-use Rattle.std.proofs.Common.{[], ◌∷◌, ◌++◌, ◌∙◌, ap}
-use Rattle.std.specs.Prelude.{codes, slice_get}
-use Rattle.mr_listing.specs.Seen.{seen}
-use Rattle.mr_listing.specs.Spots.{spot_text, statement_text}
+use Rattle.mr_listing.proofs.Common.{[], ◌∷◌, ◌++◌, ◌∙◌, ap, codes, slice_get, seen, spot_text, statement_text}
 use Rattle.mr_labels.specs.Words.{block_word, function_word}
 use Rattle.mr_listing.proofs.Appended.{behind, last_behind}
 use Rattle.mr_listing.proofs.spots.push_found.Goals as goal

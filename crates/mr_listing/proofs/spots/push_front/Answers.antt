@@ -1,7 +1,4 @@
-use Rattle.std.proofs.Common.{◌≡◌, ◌++◌, ◌∙◌, List, ℕ, ap, subst}
-use Rattle.std.specs.Prelude.{OnOk}
-use Rattle.std.specs.List.{prefix_len}
-use Rattle.mr_listing.specs.Spots.{cut_text, is_inside}
+use Rattle.mr_listing.proofs.Common.{◌≡◌, ◌++◌, ◌∙◌, List, ℕ, ap, subst, OnOk, prefix_len, cut_text, is_inside}
 use Rattle.mr_listing.proofs.SpotLaws.{looked_enough, looked_within}
 use Rattle.mr_listing.proofs.spots.push_front.Goals as goal
 

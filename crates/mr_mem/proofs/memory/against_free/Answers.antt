@@ -1,7 +1,4 @@
-use Rattle.std.proofs.Common.{ap, ◌∙◌, sym}
-use Rattle.std.specs.Option.{option_map}
-use Rattle.mr_mem.specs.Memory.{refusal}
-use Rattle.mr_mem.specs.Stored.{allocation_of}
+use Rattle.mr_mem.proofs.Common.{ap, ◌∙◌, sym, option_map, refusal, allocation_of}
 use Rattle.mr_mem.proofs.Views.{get_view}
 use Rattle.mr_mem.proofs.memory.against_free.Goals as goal
 

@@ -1,7 +1,5 @@
-use Rattle.std.proofs.Common.{◌≡◌}
+use Rattle.mr_mem.proofs.Common.{◌≡◌, is_leak, entries_of}
 use Rattle.std.specs.List.{list_any}
-use Rattle.mr_mem.specs.Memory.{is_leak}
-use Rattle.mr_mem.specs.Stored.{entries_of}
 use Rattle.mr_mem.proofs.memory.any_leak.Given as goal
 
 abbrev pub invariant-loop-a : goal.invariant-loop-a

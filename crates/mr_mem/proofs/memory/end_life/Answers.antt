@@ -1,9 +1,4 @@
-use Rattle.std.proofs.Common.{ap, ◌∙◌, sym, subst, refl, false}
-use Rattle.std.specs.Prelude.{IsSome}
-use Rattle.std.specs.Option.{option_map, option_copied_mut}
-use Rattle.mr_mem.specs.declared.memory.Stored.{Stored}
-use Rattle.mr_mem.specs.Memory.{without_life}
-use Rattle.mr_mem.specs.Stored.{allocation_of, memory_of}
+use Rattle.mr_mem.proofs.Common.{ap, ◌∙◌, sym, subst, refl, false, IsSome, option_map, option_copied_mut, Stored, without_life, allocation_of, memory_of}
 use Rattle.mr_mem.proofs.Views.{get_view, one_changed}
 use Rattle.mr_mem.proofs.memory.end_life.Goals as goal
 

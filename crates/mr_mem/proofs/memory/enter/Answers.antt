@@ -1,5 +1,4 @@
-use Rattle.std.proofs.Common.{arith}
-use Rattle.mr_mem.specs.Stored.{allocation_of, memory_of}
+use Rattle.mr_mem.proofs.Common.{arith, allocation_of, memory_of}
 use Rattle.mr_mem.proofs.IndexLaws.{entered, entered_empty, refused}
 use Rattle.mr_mem.proofs.memory.enter.Goals as goal
 

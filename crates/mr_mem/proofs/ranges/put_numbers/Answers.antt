@@ -1,9 +1,5 @@
-use Rattle.std.proofs.Common.{ap, ◌∙◌, sym, subst, refl}
-use Rattle.std.specs.Prelude.{IsSome}
-use Rattle.std.specs.Option.{option_map, option_copied_mut}
+use Rattle.mr_mem.proofs.Common.{ap, ◌∙◌, sym, subst, refl, IsSome, option_map, option_copied_mut, put_at, allocation_of, memory_of}
 use Rattle.mr_runs.specs.Numbers.{with_provenance}
-use Rattle.mr_mem.specs.Memory.{put_at}
-use Rattle.mr_mem.specs.Stored.{allocation_of, memory_of}
 use Rattle.mr_mem.proofs.PutLaws.{put_refused, put_stored}
 use Rattle.mr_mem.proofs.Views.{get_view}
 use Rattle.mr_mem.proofs.ranges.put_numbers.Goals as goal

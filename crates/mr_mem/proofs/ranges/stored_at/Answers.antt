@@ -1,7 +1,4 @@
-use Rattle.std.proofs.Common.{ap, ◌∙◌, sym}
-use Rattle.std.specs.Option.{option_map}
-use Rattle.mr_mem.specs.Memory.{found}
-use Rattle.mr_mem.specs.Stored.{allocation_of, memory_of}
+use Rattle.mr_mem.proofs.Common.{ap, ◌∙◌, sym, option_map, found, allocation_of, memory_of}
 use Rattle.mr_mem.proofs.Views.{get_view}
 use Rattle.mr_mem.proofs.ranges.stored_at.Goals as goal
 

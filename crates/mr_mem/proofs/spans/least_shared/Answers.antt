@@ -1,7 +1,4 @@
-use Rattle.std.proofs.Common.{◌≡◌, sym, ap, ◌∙◌, subst, Option}
-use Rattle.std.specs.Prelude.{fold}
-use Rattle.mr_base.specs.declared.byte.AllocId.{AllocId}
-use Rattle.mr_mem.specs.Spans.{IsLeast, IsOverlapped, Taken}
+use Rattle.mr_mem.proofs.Common.{◌≡◌, sym, ap, ◌∙◌, subst, Option, fold, AllocId, IsLeast, IsOverlapped, Taken}
 use Rattle.mr_mem.proofs.LeastLaws.{least_with}
 use Rattle.mr_mem.proofs.SpanLaws.{least_found}
 use Rattle.mr_mem.proofs.spans.least_shared.Goals as goal

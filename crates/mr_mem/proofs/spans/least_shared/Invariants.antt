@@ -1,5 +1,4 @@
-use Rattle.std.proofs.Common.{◌≡◌}
-use Rattle.std.specs.Prelude.{fold}
+use Rattle.mr_mem.proofs.Common.{◌≡◌, fold}
 use Rattle.mr_mem.proofs.LeastLaws.{least_with}
 use Rattle.mr_mem.proofs.spans.least_shared.Given as goal
 

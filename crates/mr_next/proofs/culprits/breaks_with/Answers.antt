@@ -1,10 +1,6 @@
-use Rattle.std.proofs.Common.{ap, false, sym, ◌∙◌}
-use Rattle.std.specs.Prelude.{◌==◌}
+use Rattle.mr_next.proofs.Common.{ap, false, sym, ◌∙◌, ◌==◌, Fault, program_fault, is_of_pick}
 use Rattle.std.specs.Option.{option_map_or}
 use Rattle.mr_auto.proofs.Nexts.{weaker}
-use Rattle.mr_step.specs.PlanLegal.{Fault}
-use Rattle.mr_step.specs.StartRuns.{program_fault}
-use Rattle.mr_next.specs.Culprits.{is_of_pick}
 use Rattle.mr_next.proofs.CulpritLaws.{still_broken}
 use Rattle.mr_next.proofs.culprits.breaks_with.Goals as goal
 

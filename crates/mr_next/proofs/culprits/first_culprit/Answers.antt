@@ -1,6 +1,4 @@
-use Rattle.std.proofs.Common.{◌≡◌, ◌+◌, ◌<◌, ◌∙◌, ap, arith, false, length, sym}
-use Rattle.mr_step.specs.Standing.{Standing}
-use Rattle.mr_next.specs.Culprits.{breaks_with}
+use Rattle.mr_next.proofs.Common.{◌≡◌, ◌+◌, ◌<◌, ◌∙◌, ap, arith, false, length, sym, Standing, breaks_with}
 use Rattle.mr_next.proofs.Finding.{find_behind}
 use Rattle.mr_next.proofs.culprits.first_culprit.Goals as goal
 

@@ -1,6 +1,4 @@
-use Rattle.std.proofs.Common.{◌≡◌, ◌+◌, ◌-◌, length}
-use Rattle.std.specs.List.{find, range_with_len}
-use Rattle.mr_next.specs.Culprits.{breaks_with}
+use Rattle.mr_next.proofs.Common.{◌≡◌, ◌+◌, ◌-◌, length, find, range_with_len, breaks_with}
 use Rattle.mr_next.proofs.culprits.first_culprit.Given as goal
 
 -- none so far

@@ -1,4 +1,4 @@
-use Rattle.std.proofs.Common.{[], arith}
+use Rattle.mr_next.proofs.Common.{[], arith}
 use Rattle.mr_next.proofs.culprits.is_broken.Goals as goal
 
 pub step-requires-clause-room : goal.step-requires-clause-room

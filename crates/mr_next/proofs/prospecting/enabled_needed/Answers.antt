@@ -1,7 +1,4 @@
-use Rattle.std.proofs.Common.{ap, ◌++◌, ◌∙◌, map}
-use Rattle.mr_step.specs.PlanMachine.{needs}
-use Rattle.mr_step.specs.ThreadSteps.{thread_step}
-use Rattle.mr_next.specs.Prospects.{want_of}
+use Rattle.mr_next.proofs.Common.{ap, ◌++◌, ◌∙◌, map, needs, thread_step, want_of}
 use Rattle.mr_next.proofs.prospecting.enabled_needed.Goals as goal
 
 pub wants_of-requires : goal.wants_of-requires

@@ -1,6 +1,4 @@
-use Rattle.std.proofs.Common.{◌≡◌, ap, arith, ◌++◌, ◌∷◌, [], ◌∙◌, ap₂, map}
-use Rattle.std.specs.List.{range_with_len}
-use Rattle.mr_next.specs.Prospects.{prospect_in}
+use Rattle.mr_next.proofs.Common.{◌≡◌, ap, arith, ◌++◌, ◌∷◌, [], ◌∙◌, ap₂, map, range_with_len, prospect_in}
 use Rattle.mr_next.proofs.ProspectLaws.{thread_more}
 use Rattle.mr_next.proofs.prospecting.first_prospects.Goals as goal
 

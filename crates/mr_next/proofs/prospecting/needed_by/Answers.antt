@@ -1,5 +1,4 @@
-use Rattle.std.proofs.Common.{sym, ◌∙◌}
-use Rattle.std.specs.Prelude.{slice_get}
+use Rattle.mr_next.proofs.Common.{sym, ◌∙◌, slice_get}
 use Rattle.mr_step.proofs.EntryLaws.{enabled_is}
 use Rattle.mr_next.proofs.prospecting.needed_by.Goals as goal
 

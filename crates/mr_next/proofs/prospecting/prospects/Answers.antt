@@ -1,4 +1,4 @@
-use Rattle.std.proofs.Common.{◌∙◌}
+use Rattle.mr_next.proofs.Common.{◌∙◌}
 use Rattle.mr_auto.proofs.Nexts.{weaker}
 use Rattle.mr_next.proofs.ProspectLaws.{all_there, state_there}
 use Rattle.mr_next.proofs.prospecting.prospects.Goals as goal

@@ -1,7 +1,6 @@
-use Rattle.std.proofs.Common.{ap, ap₂, sym, ◌++◌, ◌∷◌, [], ◌∙◌, get_or, map, take}
-use Rattle.std.proofs.lemmas.List.{map-append, take_all, take_more}
+use Rattle.mr_next.proofs.Common.{ap, ap₂, sym, ◌++◌, ◌∷◌, [], ◌∙◌, get_or, map, take, map-append, take_more, want_of}
+use Rattle.std.proofs.lemmas.List.{take_all}
 use Rattle.mr_sched.specs.declared.schedule.Ask.TheVariants.{Address}
-use Rattle.mr_next.specs.Prospects.{want_of}
 use Rattle.mr_next.proofs.prospecting.wants_of.Goals as goal
 
 pub loop-ask-preserved : goal.loop-ask-preserved

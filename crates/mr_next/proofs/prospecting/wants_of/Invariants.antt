@@ -1,8 +1,4 @@
-use Rattle.std.proofs.Common.{◌≡◌, map, take}
-use Rattle.std.specs.Prelude.{Some}
-use Rattle.mr_step.specs.PlanMachine.{State}
-use Rattle.mr_step.specs.ThreadSteps.{Own}
-use Rattle.mr_next.specs.Prospects.{want_of}
+use Rattle.mr_next.proofs.Common.{◌≡◌, map, take, Some, State, Own, want_of}
 use Rattle.mr_next.proofs.prospecting.wants_of.Given as goal
 
 abbrev pub invariant-loop-ask : goal.invariant-loop-ask

@@ -1,9 +1,7 @@
-use Rattle.std.proofs.Common.{◌≡◌, ℕ, ◌≤◌, ◌^◌, ap, arith, length, List, refl, subst, sym}
-use Rattle.std.specs.Prelude.{Some}
-use Rattle.mr_sched.specs.declared.schedule.Entry.{Entry}
+use Rattle.mr_next.proofs.Common.{◌≡◌, ℕ, ◌≤◌, ap, arith, length, List, refl, subst, sym, Some, Entry, fault_of}
+use Rattle.std.proofs.Common.{◌^◌}
 use Rattle.mr_run.proofs.RunLaws.{begins}
 use Rattle.mr_step.specs.StartStart.{start_fault}
-use Rattle.mr_step.specs.Answers.{fault_of}
 use Rattle.mr_next.proofs.ReachedLaws.{goes_to}
 use Rattle.mr_next.proofs.reaching.reach.Goals as goal
 

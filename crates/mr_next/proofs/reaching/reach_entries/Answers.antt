@@ -1,11 +1,6 @@
-use Rattle.std.proofs.Common.{◌≡◌, [], ap, arith, refl, subst, sym, ◌∙◌}
+use Rattle.mr_next.proofs.Common.{◌≡◌, [], ap, arith, refl, subst, sym, ◌∙◌, program_fault, fault_of, Standing, Some, culprit_of}
 use Rattle.std.proofs.lemmas.List.{drop_all}
-use Rattle.mr_step.specs.StartRuns.{program_fault}
-use Rattle.mr_step.specs.Answers.{fault_of}
-use Rattle.mr_step.specs.Standing.{Standing}
-use Rattle.std.specs.Prelude.{Some}
 use Rattle.mr_next.specs.declared.broken.Broken.{Broken}
-use Rattle.mr_next.specs.Culprits.{culprit_of}
 use Rattle.mr_next.specs.Reached.{IsReached}
 use Rattle.mr_run.proofs.RunLaws.{left_at}
 use Rattle.mr_next.proofs.ReachedLaws.{begins_way, reached_all, reached_broken, way_goes_on}

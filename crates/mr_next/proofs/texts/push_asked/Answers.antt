@@ -1,5 +1,4 @@
-use Rattle.std.proofs.Common.{◌≡◌, ◌∙◌, ◌++◌, List, subst}
-use Rattle.std.specs.Prelude.{OnOk}
+use Rattle.mr_next.proofs.Common.{◌≡◌, ◌∙◌, ◌++◌, List, subst, OnOk}
 use Rattle.mr_labels.specs.declared.names.Name.{Name}
 use Rattle.mr_next.specs.Texts.{wants_text}
 use Rattle.mr_next.proofs.texts.push_asked.Goals as goal

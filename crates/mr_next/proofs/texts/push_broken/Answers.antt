@@ -1,4 +1,4 @@
-use Rattle.std.proofs.Common.{ℕ, List, ◌++◌, ◌∙◌, ap}
+use Rattle.mr_next.proofs.Common.{ℕ, List, ◌++◌, ◌∙◌, ap}
 use Rattle.mr_next.specs.Texts.{culprit_text, earlier_text, picks_text, rule_text}
 use Rattle.mr_next.proofs.Appended.{behind, last_behind}
 use Rattle.mr_next.proofs.texts.push_broken.Goals as goal

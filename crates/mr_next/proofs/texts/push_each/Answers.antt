@@ -1,6 +1,4 @@
-use Rattle.std.proofs.Common.{◌∙◌, arith}
-use Rattle.mr_labels.proofs.Growing.{appended_next}
-use Rattle.mr_next.specs.Texts.{numbered_text}
+use Rattle.mr_next.proofs.Common.{◌∙◌, arith, appended_next, numbered_text}
 use Rattle.mr_next.proofs.texts.push_each.Goals as goal
 
 pub loop-thread-preserved : goal.loop-thread-preserved

@@ -1,5 +1,4 @@
-use Rattle.std.proofs.Common.{ℕ, List, [], ◌∷◌, ◌++◌}
-use Rattle.std.specs.Prelude.{codes, decimal, option_copied}
+use Rattle.mr_next.proofs.Common.{ℕ, List, [], ◌∷◌, ◌++◌, codes, decimal, option_copied}
 use Rattle.mr_next.specs.Texts.{at_text, status_text}
 use Rattle.mr_next.proofs.Appended.{behind}
 use Rattle.mr_next.proofs.texts.push_head.Goals as goal

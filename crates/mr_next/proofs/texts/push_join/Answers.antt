@@ -1,6 +1,4 @@
-use Rattle.std.proofs.Common.{◌≡◌, ◌++◌, ℕ, subst}
-use Rattle.std.specs.Prelude.{codes, decimal}
-use Rattle.std.specs.Prelude.{OnOk}
+use Rattle.mr_next.proofs.Common.{◌≡◌, ◌++◌, ℕ, subst, codes, decimal, OnOk}
 use Rattle.mr_next.proofs.Appended.{last_behind}
 use Rattle.mr_next.proofs.texts.push_join.Goals as goal
 

@@ -1,5 +1,4 @@
-use Rattle.std.proofs.Common.{◌≡◌, ◌++◌, ℕ, List, subst}
-use Rattle.std.specs.Prelude.{OnOk, ◌==◌, codes, decimal, if◌then◌else◌}
+use Rattle.mr_next.proofs.Common.{◌≡◌, ◌++◌, ℕ, List, subst, OnOk, ◌==◌, codes, decimal, if◌then◌else◌}
 use Rattle.mr_next.proofs.Appended.{last_behind}
 use Rattle.mr_next.proofs.texts.push_named.Goals as goal
 

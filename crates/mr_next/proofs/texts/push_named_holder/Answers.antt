@@ -1,5 +1,4 @@
-use Rattle.std.proofs.Common.{◌++◌, ◌∙◌, ap}
-use Rattle.std.specs.Prelude.{codes, decimal}
+use Rattle.mr_next.proofs.Common.{◌++◌, ◌∙◌, ap, codes, decimal}
 use Rattle.mr_next.proofs.Appended.{behind}
 use Rattle.mr_next.proofs.texts.push_named_holder.Goals as goal
 

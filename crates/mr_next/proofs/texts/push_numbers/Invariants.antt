@@ -1,4 +1,4 @@
-use Rattle.std.specs.Prelude.{◌≡◌, ◌++◌, flat_map, take}
+use Rattle.mr_next.proofs.Common.{◌≡◌, ◌++◌, flat_map, take}
 use Rattle.mr_next.specs.Texts.{blank_number}
 use Rattle.mr_next.proofs.texts.push_numbers.Given as goal
 

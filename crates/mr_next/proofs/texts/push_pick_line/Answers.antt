@@ -1,5 +1,4 @@
-use Rattle.std.proofs.Common.{ℕ, List, [], ◌∷◌, ◌++◌}
-use Rattle.std.specs.Prelude.{codes, decimal}
+use Rattle.mr_next.proofs.Common.{ℕ, List, [], ◌∷◌, ◌++◌, codes, decimal}
 use Rattle.mr_next.proofs.Appended.{behind}
 use Rattle.mr_next.proofs.texts.push_pick_line.Goals as goal
 

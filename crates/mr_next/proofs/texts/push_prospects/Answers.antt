@@ -1,5 +1,4 @@
-use Rattle.std.proofs.Common.{◌≡◌, ℕ, ◌++◌, subst}
-use Rattle.std.specs.Prelude.{OnOk}
+use Rattle.mr_next.proofs.Common.{◌≡◌, ℕ, ◌++◌, subst, OnOk}
 use Rattle.mr_next.specs.Texts.{each_text}
 use Rattle.mr_next.proofs.texts.push_prospects.Goals as goal
 

@@ -1,5 +1,4 @@
-use Rattle.std.proofs.Common.{◌-◌, ℕ, List, [], ◌∷◌, ◌++◌, ◌∙◌, ap}
-use Rattle.std.specs.Prelude.{codes}
+use Rattle.mr_next.proofs.Common.{◌-◌, ℕ, List, [], ◌∷◌, ◌++◌, ◌∙◌, ap, codes}
 use Rattle.mr_next.specs.Texts.{code_text, entry_text}
 use Rattle.mr_next.proofs.Appended.{behind}
 use Rattle.mr_next.proofs.texts.push_rule.Goals as goal

@@ -1,5 +1,4 @@
-use Rattle.std.proofs.Common.{◌++◌}
-use Rattle.std.specs.Prelude.{codes, decimal}
+use Rattle.mr_next.proofs.Common.{◌++◌, codes, decimal}
 use Rattle.mr_next.proofs.Appended.{behind, last_behind}
 use Rattle.mr_next.proofs.texts.push_size.Goals as goal
 

@@ -1,5 +1,4 @@
-use Rattle.std.proofs.Common.{ℕ, List, [], ◌∷◌, ◌++◌, ◌∙◌, ap, take}
-use Rattle.std.specs.Prelude.{codes}
+use Rattle.mr_next.proofs.Common.{ℕ, List, [], ◌∷◌, ◌++◌, ◌∙◌, ap, take, codes}
 use Rattle.mr_next.specs.Texts.{blank_numbers, count_of_picks}
 use Rattle.mr_next.proofs.Appended.{behind}
 use Rattle.mr_next.proofs.texts.push_some_picks.Goals as goal

@@ -1,5 +1,4 @@
-use Rattle.std.proofs.Common.{◌∙◌, ◌++◌, List, ap}
-use Rattle.std.specs.Prelude.{option_copied, Option}
+use Rattle.mr_next.proofs.Common.{◌∙◌, ◌++◌, List, ap, option_copied, Option}
 use Rattle.mr_labels.specs.declared.step.Stand.{Stand}
 use Rattle.mr_next.specs.declared.prospect.Want.{Want}
 use Rattle.mr_next.specs.Texts.{asked_text, head_text, limit_text, stand_at}

@@ -1,6 +1,4 @@
-use Rattle.std.specs.Prelude.{◌≡◌, ◌++◌, flat_map}
-use Rattle.std.specs.List.{range_with_len}
-use Rattle.mr_next.specs.Texts.{numbered_thread}
+use Rattle.mr_next.proofs.Common.{◌≡◌, ◌++◌, flat_map, range_with_len, numbered_thread}
 use Rattle.mr_next.proofs.texts.push_threads.Given as goal
 
 -- the threads before this one are written

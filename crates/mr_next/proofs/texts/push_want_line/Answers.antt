@@ -1,5 +1,4 @@
-use Rattle.std.proofs.Common.{ℕ, List, [], ◌∷◌, ◌++◌}
-use Rattle.std.specs.Prelude.{codes}
+use Rattle.mr_next.proofs.Common.{ℕ, List, [], ◌∷◌, ◌++◌, codes}
 use Rattle.mr_next.specs.Texts.{want_text}
 use Rattle.mr_next.proofs.Appended.{behind}
 use Rattle.mr_next.proofs.texts.push_want_line.Goals as goal

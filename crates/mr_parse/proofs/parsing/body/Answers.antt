@@ -1,6 +1,4 @@
-use Rattle.std.proofs.Common.{◌≡◌, Err}
-use Rattle.mr_grammar.specs.Parsing.{whole_of}
-use Rattle.mr_words.specs.Places.{words_of}
+use Rattle.mr_parse.proofs.Common.{◌≡◌, Err, whole_of, words_of}
 use Rattle.mr_parse.proofs.ParseLaws.{whole_stopped, whole_written}
 use Rattle.mr_parse.proofs.parsing.body.Goals as goal
 

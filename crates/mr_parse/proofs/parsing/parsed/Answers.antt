@@ -1,7 +1,5 @@
-use Rattle.std.proofs.Common.{◌≡◌, Err, ap, sym, ◌∙◌}
+use Rattle.mr_parse.proofs.Common.{◌≡◌, Err, ap, sym, ◌∙◌, program_in, words_of}
 use Rattle.mr_lex.specs.Reading.{lexed}
-use Rattle.mr_grammar.specs.Parsing.{program_in}
-use Rattle.mr_words.specs.Places.{words_of}
 use Rattle.mr_grammar.proofs.AsciiLaws.{few_tokens, texts_ascii}
 use Rattle.mr_parse.proofs.ParseLaws.{bad_parsed, program_parsed, stop_parsed}
 use Rattle.mr_parse.proofs.parsing.parsed.Goals as goal

@@ -1,4 +1,4 @@
-use Rattle.mr_words.specs.Places.{words_of}
+use Rattle.mr_parse.proofs.Common.{words_of}
 use Rattle.mr_parse.specs.Views.{body_of_parts}
 use Rattle.mr_parse.proofs.ParseLaws.{small}
 use Rattle.mr_parse.proofs.parsing.tables_of.Goals as goal

@@ -1,9 +1,4 @@
-use Rattle.std.proofs.Common.{◌≡◌, ◌+◌, suc, sym, subst, arith, codes}
-use Rattle.std.proofs.lemmas.Result.{err_from_is_err_and}
-use Rattle.mr_ast.specs.ProgramGrammar.{block_form, blocks_form}
-use Rattle.mr_ast.specs.Writing.{other_than}
-use Rattle.mr_parse.specs.ReaderGives.{Gives}
-use Rattle.mr_grammar.specs.Reading.{read}
+use Rattle.mr_parse.proofs.Common.{◌≡◌, ◌+◌, suc, sym, subst, arith, codes, err_from_is_err_and, block_form, blocks_form, other_than, Gives, read}
 use Rattle.mr_parse.proofs.Walk.LoopLaws.{pushed_goes_on, pushed_stops, is_done, is_past}
 use Rattle.mr_parse.proofs.program.blocks.Goals as goal
 

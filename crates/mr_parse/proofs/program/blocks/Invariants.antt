@@ -1,7 +1,4 @@
-use Rattle.std.proofs.Common.{◌≡◌, ◌-◌, suc, codes}
-use Rattle.mr_ast.specs.ProgramGrammar.{block_form, blocks_form}
-use Rattle.mr_ast.specs.Writing.{other_than}
-use Rattle.mr_grammar.specs.Reading.{read, many_at}
+use Rattle.mr_parse.proofs.Common.{◌≡◌, ◌-◌, suc, codes, block_form, blocks_form, other_than, read, many_at}
 use Rattle.mr_parse.proofs.Walk.LoopLaws.{with_front}
 use Rattle.mr_parse.proofs.program.blocks.Given as goal
 

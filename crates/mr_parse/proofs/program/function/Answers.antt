@@ -1,7 +1,4 @@
-use Rattle.std.proofs.Common.{sym, subst}
-use Rattle.mr_ast.specs.ProgramGrammar.{body_form}
-use Rattle.mr_parse.specs.ReaderGives.{Gives}
-use Rattle.mr_grammar.specs.Reading.{read}
+use Rattle.mr_parse.proofs.Common.{sym, subst, body_form, Gives, read}
 use Rattle.mr_parse.specs.Views.{named}
 use Rattle.mr_parse.proofs.FunctionLaws.{function_reads}
 use Rattle.mr_parse.proofs.program.function.Goals as goal

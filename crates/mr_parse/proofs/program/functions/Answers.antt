@@ -1,8 +1,4 @@
-use Rattle.std.proofs.Common.{sym, arith, codes}
-use Rattle.std.proofs.lemmas.Result.{err_from_is_err_and}
-use Rattle.mr_ast.specs.ProgramGrammar.{function_form, functions_form}
-use Rattle.mr_ast.specs.Writing.{is_word}
-use Rattle.mr_grammar.specs.Reading.{read}
+use Rattle.mr_parse.proofs.Common.{sym, arith, codes, err_from_is_err_and, function_form, functions_form, is_word, read}
 use Rattle.mr_parse.proofs.Walk.LoopLaws.{goes_on, stops, is_done, is_past}
 use Rattle.mr_parse.proofs.program.functions.Goals as goal
 

@@ -1,7 +1,4 @@
-use Rattle.std.proofs.Common.{◌≡◌, ◌-◌, codes}
-use Rattle.mr_ast.specs.ProgramGrammar.{global_form, globals_form}
-use Rattle.mr_ast.specs.Writing.{is_word}
-use Rattle.mr_grammar.specs.Reading.{read, many_at}
+use Rattle.mr_parse.proofs.Common.{◌≡◌, ◌-◌, codes, global_form, globals_form, is_word, read, many_at}
 use Rattle.mr_parse.proofs.Walk.LoopLaws.{with_front}
 use Rattle.mr_parse.proofs.program.globals.Given as goal
 

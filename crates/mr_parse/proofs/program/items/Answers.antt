@@ -1,8 +1,4 @@
-use Rattle.std.proofs.Common.{sym, arith, codes}
-use Rattle.std.proofs.lemmas.Result.{err_from_is_err_and}
-use Rattle.mr_ast.specs.ProgramGrammar.{item_form, items_form}
-use Rattle.mr_ast.specs.Writing.{other_than}
-use Rattle.mr_grammar.specs.Reading.{read}
+use Rattle.mr_parse.proofs.Common.{sym, arith, codes, err_from_is_err_and, item_form, items_form, other_than, read}
 use Rattle.mr_parse.proofs.Walk.LoopLaws.{goes_on, stops, is_done, is_past}
 use Rattle.mr_parse.proofs.program.items.Goals as goal
 

@@ -1,7 +1,4 @@
-use Rattle.std.proofs.Common.{◌≡◌, ◌-◌, codes}
-use Rattle.mr_ast.specs.ProgramGrammar.{item_form, items_form}
-use Rattle.mr_ast.specs.Writing.{other_than}
-use Rattle.mr_grammar.specs.Reading.{read, many_at}
+use Rattle.mr_parse.proofs.Common.{◌≡◌, ◌-◌, codes, item_form, items_form, other_than, read, many_at}
 use Rattle.mr_parse.proofs.Walk.LoopLaws.{with_front}
 use Rattle.mr_parse.proofs.program.items.Given as goal
 

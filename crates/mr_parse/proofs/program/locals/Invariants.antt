@@ -1,7 +1,4 @@
-use Rattle.std.proofs.Common.{◌≡◌, ◌-◌, suc, codes}
-use Rattle.mr_ast.specs.ProgramGrammar.{local_form, locals_form}
-use Rattle.mr_ast.specs.Writing.{◌▸◌, is_word}
-use Rattle.mr_grammar.specs.Reading.{read, many_at}
+use Rattle.mr_parse.proofs.Common.{◌≡◌, ◌-◌, suc, codes, local_form, locals_form, ◌▸◌, is_word, read, many_at}
 use Rattle.mr_parse.proofs.Walk.LoopLaws.{with_front}
 use Rattle.mr_parse.proofs.program.locals.Given as goal
 

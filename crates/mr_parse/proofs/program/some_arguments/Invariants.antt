@@ -1,7 +1,4 @@
-use Rattle.std.proofs.Common.{◌≡◌, ◌-◌, codes}
-use Rattle.mr_ast.specs.Writing.{◌▸◌, is_word, local_use}
-use Rattle.mr_ast.specs.ProgramGrammar.{args_form}
-use Rattle.mr_grammar.specs.Reading.{read, many_at}
+use Rattle.mr_parse.proofs.Common.{◌≡◌, ◌-◌, codes, ◌▸◌, is_word, local_use, args_form, read, many_at}
 use Rattle.mr_parse.proofs.Walk.LoopLaws.{with_front}
 use Rattle.mr_parse.proofs.program.some_arguments.Given as goal
 

@@ -1,9 +1,4 @@
-use Rattle.std.proofs.Common.{sym, arith}
-use Rattle.std.proofs.lemmas.Result.{err_from_is_err_and}
-use Rattle.mr_ast.specs.Forms.{Part}
-use Rattle.mr_ast.specs.Writing.{TheValue}
-use Rattle.mr_ast.specs.ProgramGrammar.{values_form}
-use Rattle.mr_grammar.specs.Reading.{read}
+use Rattle.mr_parse.proofs.Common.{sym, arith, err_from_is_err_and, Part, TheValue, values_form, read}
 use Rattle.mr_parse.proofs.Walk.LoopLaws.{comma_pushed_goes_on, comma_pushed_stops, comma_is_done, comma_is_past}
 use Rattle.mr_parse.proofs.statements.some_values.Goals as goal
 

@@ -1,9 +1,4 @@
-use Rattle.std.proofs.Common.{◌≡◌, ◌-◌, codes}
-use Rattle.mr_ast.specs.Writing.{◌▸◌, is_word}
-use Rattle.mr_ast.specs.Forms.{Part}
-use Rattle.mr_ast.specs.Writing.{TheValue}
-use Rattle.mr_ast.specs.ProgramGrammar.{values_form}
-use Rattle.mr_grammar.specs.Reading.{read, many_at}
+use Rattle.mr_parse.proofs.Common.{◌≡◌, ◌-◌, codes, ◌▸◌, is_word, Part, TheValue, values_form, read, many_at}
 use Rattle.mr_parse.proofs.Walk.LoopLaws.{with_front}
 use Rattle.mr_parse.proofs.statements.some_values.Given as goal
 

@@ -1,7 +1,4 @@
-use Rattle.std.proofs.Common.{sym, arith}
-use Rattle.std.proofs.lemmas.Result.{err_from_is_err_and}
-use Rattle.mr_ast.specs.ProgramGrammar.{begins_stmt, stmt_form, stmts_form}
-use Rattle.mr_grammar.specs.Reading.{read}
+use Rattle.mr_parse.proofs.Common.{sym, arith, err_from_is_err_and, begins_stmt, stmt_form, stmts_form, read}
 use Rattle.mr_parse.proofs.Walk.LoopLaws.{goes_on, stops, is_done, is_past}
 use Rattle.mr_parse.proofs.statements.statements.Goals as goal
 

@@ -1,6 +1,4 @@
-use Rattle.std.proofs.Common.{◌≡◌, ◌-◌}
-use Rattle.mr_ast.specs.ProgramGrammar.{begins_stmt, stmt_form, stmts_form}
-use Rattle.mr_grammar.specs.Reading.{read, many_at}
+use Rattle.mr_parse.proofs.Common.{◌≡◌, ◌-◌, begins_stmt, stmt_form, stmts_form, read, many_at}
 use Rattle.mr_parse.proofs.Walk.LoopLaws.{with_front}
 use Rattle.mr_parse.proofs.statements.statements.Given as goal
 

@@ -1,8 +1,4 @@
-use Rattle.std.proofs.Common.{sym, arith, codes}
-use Rattle.std.proofs.lemmas.Result.{err_from_is_err_and}
-use Rattle.mr_ast.specs.ProgramGrammar.{switch_case_form, switch_cases_form}
-use Rattle.mr_ast.specs.Writing.{other_than}
-use Rattle.mr_grammar.specs.Reading.{read}
+use Rattle.mr_parse.proofs.Common.{sym, arith, codes, err_from_is_err_and, switch_case_form, switch_cases_form, other_than, read}
 use Rattle.mr_parse.proofs.Walk.LoopLaws.{goes_on, stops, is_done, is_past}
 use Rattle.mr_parse.proofs.statements.switch_cases.Goals as goal
 

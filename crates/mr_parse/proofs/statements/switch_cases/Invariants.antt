@@ -1,7 +1,4 @@
-use Rattle.std.proofs.Common.{◌≡◌, ◌-◌, codes}
-use Rattle.mr_ast.specs.ProgramGrammar.{switch_case_form, switch_cases_form}
-use Rattle.mr_ast.specs.Writing.{other_than}
-use Rattle.mr_grammar.specs.Reading.{read, many_at}
+use Rattle.mr_parse.proofs.Common.{◌≡◌, ◌-◌, codes, switch_case_form, switch_cases_form, other_than, read, many_at}
 use Rattle.mr_parse.proofs.Walk.LoopLaws.{with_front}
 use Rattle.mr_parse.proofs.statements.switch_cases.Given as goal
 

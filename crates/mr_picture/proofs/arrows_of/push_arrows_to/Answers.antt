@@ -1,10 +1,4 @@
-use Rattle.std.proofs.Common.{◌++◌, ◌∙◌, ap, arith, map}
-use Rattle.std.specs.Prelude.{flat_map}
-use Rattle.std.specs.List.{range_with_len}
-use Rattle.mr_svg.specs.Svg.{mark_text}
-use Rattle.mr_picture.specs.Arrows.{arrow_from}
-use Rattle.mr_picture.specs.Links.{arrow_mark}
-use Rattle.mr_picture.specs.Scene.{scene_in}
+use Rattle.mr_picture.proofs.Common.{◌++◌, ◌∙◌, ap, arith, map, flat_map, range_with_len, mark_text, arrow_from, arrow_mark, scene_in}
 use Rattle.mr_picture.proofs.Turns.{all_met}
 use Rattle.mr_picture.proofs.Marks.{mapped_behind}
 use Rattle.mr_picture.proofs.arrows_of.push_arrows_to.Goals as goal

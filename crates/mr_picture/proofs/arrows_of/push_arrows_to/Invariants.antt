@@ -1,9 +1,4 @@
-use Rattle.std.specs.Prelude.{max, ◌≡◌, ◌++◌, ◌-◌, ◌≤◌, flat_map, map}
-use Rattle.std.specs.List.{range_with_len}
-use Rattle.mr_svg.specs.Svg.{mark_text}
-use Rattle.mr_picture.specs.Arrows.{arrow_from}
-use Rattle.mr_picture.specs.Links.{arrow_mark}
-use Rattle.mr_picture.specs.Scene.{scene_in}
+use Rattle.mr_picture.proofs.Common.{max, ◌≡◌, ◌++◌, ◌-◌, ◌≤◌, flat_map, map, range_with_len, mark_text, arrow_from, arrow_mark, scene_in}
 use Rattle.mr_picture.proofs.arrows_of.push_arrows_to.Given as goal
 
 -- the arrows from the steps before this one are drawn

@@ -1,10 +1,4 @@
-use Rattle.std.specs.Prelude.{◌≡◌, ◌++◌, ◌-◌, ◌≤◌, flat_map, map}
-use Rattle.std.specs.List.{range_with_len}
-use Rattle.mr_rust_order.specs.Tracked.{Tracks}
-use Rattle.mr_svg.specs.Svg.{mark_text}
-use Rattle.mr_picture.specs.Arrows.{arrows_to}
-use Rattle.mr_picture.specs.Links.{arrow_mark}
-use Rattle.mr_picture.specs.Scene.{scene_in}
+use Rattle.mr_picture.proofs.Common.{◌≡◌, ◌++◌, ◌-◌, ◌≤◌, flat_map, map, range_with_len, Tracks, mark_text, arrows_to, arrow_mark, scene_in}
 use Rattle.mr_picture.proofs.arrows_of.push_each_arrow.Given as goal
 
 -- the arrows to the steps before this one are drawn, and Rust's order of these steps is known

@@ -1,5 +1,4 @@
-use Rattle.std.proofs.Common.{◌≡◌, ℕ, subst, arith}
-use Rattle.mr_rust_order.specs.Tracked.{Tracks}
+use Rattle.mr_picture.proofs.Common.{◌≡◌, ℕ, subst, arith, Tracks}
 use Rattle.mr_picture.proofs.arrows_of.rusts_order.Goals as goal
 
 pub loop-step-init : goal.loop-step-init

@@ -1,4 +1,4 @@
-use Rattle.mr_rust_order.specs.Tracked.{Tracks}
+use Rattle.mr_picture.proofs.Common.{Tracks}
 use Rattle.mr_picture.proofs.arrows_of.rusts_order.Given as goal
 
 -- the steps before this one are known

@@ -1,8 +1,7 @@
-use Rattle.std.proofs.Common.{ℕ, List, ◌∙◌, ap, arith, length, subst, sym}
-use Rattle.std.specs.Prelude.{All}
+use Rattle.mr_picture.proofs.Common.{ℕ, List, ◌∙◌, ap, arith, length, subst, sym, All, IsRace, scene_in}
+use Rattle.mr_picture.specs.Scene.{IsStep}
 use Rattle.mr_picture.proofs.Counts.{left_few, witness_few}
 use Rattle.mr_picture.proofs.Within.{left_below, witness_below}
-use Rattle.mr_picture.specs.Scene.{IsRace, IsStep, scene_in}
 use Rattle.mr_picture.proofs.column.push_column.Goals as goal
 
 pub push_column_of-requires-clause-few : goal.push_column_of-requires-clause-few

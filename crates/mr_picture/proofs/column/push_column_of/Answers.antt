@@ -1,8 +1,4 @@
-use Rattle.std.proofs.Common.{◌∷◌, []}
-use Rattle.mr_svg.specs.Svg.{mark_text}
-use Rattle.mr_picture.specs.Scene.{scene_in}
-use Rattle.std.specs.Prelude.{length}
-use Rattle.mr_picture.specs.Column.{column_name, column_race, kept_marks, left_marks, rows_marks}
+use Rattle.mr_picture.proofs.Common.{◌∷◌, [], mark_text, scene_in, length, column_name, column_race, kept_marks, left_marks, rows_marks}
 use Rattle.mr_picture.proofs.Marks.{begun, last_marks, more_mark, more_marks}
 use Rattle.mr_picture.proofs.column.push_column_of.Goals as goal
 

@@ -1,7 +1,4 @@
-use Rattle.std.specs.Prelude.{◌≡◌, ◌++◌, drop, flat_map}
-use Rattle.mr_svg.specs.Svg.{mark_text}
-use Rattle.mr_picture.specs.Column.{kept_marks, rows_marks}
-use Rattle.mr_picture.specs.Scene.{scene_in}
+use Rattle.mr_picture.proofs.Common.{◌≡◌, ◌++◌, drop, flat_map, mark_text, kept_marks, rows_marks, scene_in}
 use Rattle.mr_picture.proofs.column.push_each_kept.Given as goal
 
 -- the steps from this one on complete the column

@@ -1,9 +1,4 @@
-use Rattle.std.proofs.Common.{ℕ, ◌++◌, List, ◌∙◌, ap, arith, sym}
-use Rattle.std.proofs.lemmas.List.{drop_all}
-use Rattle.std.specs.Prelude.{flat_map}
-use Rattle.mr_svg.specs.Svg.{mark_text}
-use Rattle.mr_picture.specs.Column.{left_marks, rows_marks}
-use Rattle.mr_picture.specs.Scene.{scene_in}
+use Rattle.mr_picture.proofs.Common.{ℕ, ◌++◌, List, ◌∙◌, ap, arith, sym, drop_all, flat_map, mark_text, left_marks, rows_marks, scene_in}
 use Rattle.mr_picture.proofs.RowLaws.{no_rows, row_taken}
 use Rattle.mr_picture.proofs.column.push_each_left.Goals as goal
 

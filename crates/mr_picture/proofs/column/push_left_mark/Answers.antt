@@ -1,12 +1,5 @@
-use Rattle.std.proofs.Common.{◌≡◌, ℕ, List, [], ◌++◌, ◌∙◌, ap, subst}
-use Rattle.std.specs.Prelude.{OnOk}
-use Rattle.mr_svg.specs.declared.shape.Point.{Point}
-use Rattle.mr_svg.specs.declared.shape.Shape.TheVariants.{Dot}
+use Rattle.mr_picture.proofs.Common.{◌≡◌, ℕ, List, [], ◌++◌, ◌∙◌, ap, subst, OnOk, Point, Dot, mark_text, column_place, left_title, scene_in, mark_of}
 use Rattle.mr_svg.specs.declared.shape.Sign.TheVariants as sign
-use Rattle.mr_svg.specs.Svg.{mark_text}
-use Rattle.mr_picture.specs.Column.{column_place, left_title}
-use Rattle.mr_picture.specs.Scene.{scene_in}
-use Rattle.mr_picture.specs.Steps.{mark_of}
 use Rattle.mr_picture.proofs.column.push_left_mark.Goals as goal
 
 pub returns : goal.returns

@@ -1,11 +1,6 @@
-use Rattle.std.proofs.Common.{◌≡◌, ℕ, List, ◌+◌, ◌++◌, ◌∙◌, subst}
-use Rattle.std.specs.Prelude.{OnOk, decimal}
-use Rattle.mr_svg.specs.declared.shape.Point.{Point}
+use Rattle.mr_picture.proofs.Common.{◌≡◌, ℕ, List, ◌+◌, ◌++◌, ◌∙◌, subst, OnOk, decimal, Point, mark_text, left_title, mark_of}
 use Rattle.mr_svg.specs.declared.shape.Shape.TheVariants.{WordsTo}
 use Rattle.mr_svg.specs.declared.shape.Sign.TheVariants as sign
-use Rattle.mr_svg.specs.Svg.{mark_text}
-use Rattle.mr_picture.specs.Column.{left_title}
-use Rattle.mr_picture.specs.Steps.{mark_of}
 use Rattle.mr_picture.proofs.column.push_left_number.Goals as goal
 
 pub returns : goal.returns

@@ -1,5 +1,4 @@
-use Rattle.std.specs.Prelude.{◌≡◌, ◌++◌, flat_map, take}
-use Rattle.mr_listing.specs.Seen.{seen}
+use Rattle.mr_picture.proofs.Common.{◌≡◌, ◌++◌, flat_map, take, seen}
 use Rattle.mr_picture.specs.Deeds.{access_deed}
 use Rattle.mr_picture.proofs.deeds.push_accesses.Given as goal
 

@@ -1,7 +1,5 @@
-use Rattle.std.proofs.Common.{◌≡◌, ◌++◌, subst, sym}
-use Rattle.std.specs.Prelude.{OnOk, Option, codes}
+use Rattle.mr_picture.proofs.Common.{◌≡◌, ◌++◌, subst, sym, OnOk, Option, codes, seen}
 use Rattle.mr_labels.specs.declared.step.Stand.{Stand}
-use Rattle.mr_listing.specs.Seen.{seen}
 use Rattle.mr_listing.proofs.Appended.{last_behind}
 use Rattle.mr_picture.specs.Deeds.{in_text, numbered, start_deed}
 use Rattle.mr_picture.proofs.deeds.push_start.Goals as goal

@@ -1,4 +1,4 @@
-use Rattle.std.specs.Prelude.{◌≡◌, ◌++◌, flat_map, take}
+use Rattle.mr_picture.proofs.Common.{◌≡◌, ◌++◌, flat_map, take}
 use Rattle.mr_picture.specs.Deeds.{wake_deed}
 use Rattle.mr_picture.proofs.deeds.push_woken.Given as goal
 

@@ -1,9 +1,5 @@
-use Rattle.std.proofs.Common.{◌≡◌, subst}
-use Rattle.std.specs.Prelude.{IfOk}
-use Rattle.mr_picture.specs.declared.span.Span.{Span}
-use Rattle.mr_listing.specs.Seen.{seen}
+use Rattle.mr_picture.proofs.Common.{◌≡◌, subst, IfOk, Span, seen, scene_text}
 use Rattle.mr_picture.specs.Drawn.{span_scene}
-use Rattle.mr_picture.specs.Picture.{scene_text}
 use Rattle.mr_picture.proofs.drawing.picture.Goals as goal
 
 pub returns : goal.returns

@@ -1,13 +1,4 @@
-use Rattle.std.proofs.Common.{◌++◌}
-use Rattle.mr_svg.specs.Svg.{mark_text}
-use Rattle.mr_picture.specs.Scene.{scene_in}
-use Rattle.std.specs.Prelude.{flat_map, map}
-use Rattle.mr_picture.specs.Arrows.{arrows}
-use Rattle.mr_picture.specs.Span.{races_in, steps_in}
-use Rattle.mr_picture.specs.Lanes.{lane_marks}
-use Rattle.mr_picture.specs.Links.{arrow_mark, race_mark}
-use Rattle.mr_picture.specs.Picture.{round_marks}
-use Rattle.mr_picture.specs.Steps.{row_marks, step_marks}
+use Rattle.mr_picture.proofs.Common.{◌++◌, mark_text, scene_in, flat_map, map, arrows, races_in, steps_in, lane_marks, arrow_mark, race_mark, round_marks, row_marks, step_marks}
 use Rattle.mr_picture.proofs.Marks.{last_marks, more_marks}
 use Rattle.mr_picture.proofs.drawing.push_marks.Goals as goal
 

@@ -1,10 +1,4 @@
-use Rattle.std.proofs.Common.{◌++◌}
-use Rattle.mr_svg.specs.Svg.{mark_text}
-use Rattle.mr_picture.specs.Scene.{scene_in}
-use Rattle.mr_picture.specs.Column.{column_marks}
-use Rattle.mr_picture.specs.Ends.{head_marks, line_marks}
-use Rattle.mr_picture.specs.Grid.{tail_count}
-use Rattle.mr_picture.specs.Legend.{legend_marks}
+use Rattle.mr_picture.proofs.Common.{◌++◌, mark_text, scene_in, column_marks, head_marks, line_marks, tail_count, legend_marks}
 use Rattle.mr_picture.proofs.Marks.{last_marks, more_marks}
 use Rattle.mr_picture.proofs.drawing.push_round.Goals as goal
 

@@ -1,10 +1,5 @@
-use Rattle.std.proofs.Common.{◌≡◌, ◌∙◌, ℕ, List, ap, length, subst, sym}
-use Rattle.mr_event.specs.declared.footprint.Pair.{Pair}
-use Rattle.std.specs.Prelude.{IfOk, Option, slice_get}
-use Rattle.mr_picture.specs.declared.scene.Drawn.{Drawn}
-use Rattle.mr_picture.specs.declared.span.Span.{Span}
-use Rattle.mr_picture.specs.Picture.{scene_text}
-use Rattle.mr_picture.specs.Scene.{IsSmall, Scene, Sketch, done_in, near_in, race_in, scene_of, sketch_in, threads_of}
+use Rattle.mr_picture.proofs.Common.{◌≡◌, ◌∙◌, ℕ, List, ap, length, subst, sym, Pair, IfOk, Option, slice_get, Drawn, Span, scene_text, IsSmall, Scene, Sketch, done_in, near_in, race_in, scene_of}
+use Rattle.mr_picture.specs.Scene.{sketch_in, threads_of}
 use Rattle.mr_picture.proofs.SceneLaws.{small_of}
 use Rattle.mr_picture.proofs.drawing.sketched.Goals as goal
 

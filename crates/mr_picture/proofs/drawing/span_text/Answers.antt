@@ -1,10 +1,4 @@
-use Rattle.std.proofs.Common.{◌≡◌, ◌^◌, ◌<◌, ◌∙◌, ℕ, List, subst, sym}
-use Rattle.std.specs.Prelude.{All, IfOk}
-use Rattle.mr_listing.specs.Seen.{seen}
-use Rattle.mr_picture.specs.declared.scene.Drawn.{Drawn}
-use Rattle.mr_picture.specs.Drawn.{drawn_steps, sketch_of}
-use Rattle.mr_picture.specs.Picture.{scene_text}
-use Rattle.mr_picture.specs.Scene.{scene_of}
+use Rattle.mr_picture.proofs.Common.{◌≡◌, ◌^◌, ◌<◌, ◌∙◌, ℕ, List, subst, sym, All, IfOk, seen, Drawn, drawn_steps, sketch_of, scene_text, scene_of}
 use Rattle.mr_picture.proofs.SceneLaws.{drawn_small}
 use Rattle.mr_picture.proofs.drawing.span_text.Goals as goal
 

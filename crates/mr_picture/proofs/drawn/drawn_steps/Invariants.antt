@@ -1,6 +1,4 @@
-use Rattle.std.specs.Prelude.{◌≡◌, take}
-use Rattle.mr_listing.specs.Seen.{seen}
-use Rattle.mr_picture.specs.Drawn.{drawn_steps}
+use Rattle.mr_picture.proofs.Common.{◌≡◌, take, seen, drawn_steps}
 use Rattle.mr_picture.proofs.drawn.drawn_steps.Given as goal
 
 -- the drawn ones before this one are told

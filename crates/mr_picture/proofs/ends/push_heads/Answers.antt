@@ -1,7 +1,4 @@
-use Rattle.std.proofs.Common.{◌∷◌, []}
-use Rattle.mr_svg.specs.Svg.{mark_text}
-use Rattle.mr_picture.specs.Scene.{scene_in}
-use Rattle.mr_picture.specs.Ends.{part_mark, title_mark}
+use Rattle.mr_picture.proofs.Common.{◌∷◌, [], mark_text, scene_in, part_mark, title_mark}
 use Rattle.mr_picture.proofs.Marks.{begun, last_mark, more_mark}
 use Rattle.mr_picture.proofs.ends.push_heads.Goals as goal
 

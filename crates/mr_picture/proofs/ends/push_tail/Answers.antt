@@ -1,8 +1,4 @@
-use Rattle.std.proofs.Common.{◌≡◌, ℕ, ◌+◌, ◌-◌, ◌++◌, List, ◌∙◌, ap, append-nil, arith, sym}
-use Rattle.std.specs.Prelude.{flat_map}
-use Rattle.mr_svg.specs.Svg.{mark_text}
-use Rattle.mr_picture.specs.Ends.{line_marks, tail_mark}
-use Rattle.mr_picture.specs.Scene.{scene_in}
+use Rattle.mr_picture.proofs.Common.{◌≡◌, ℕ, ◌+◌, ◌-◌, ◌++◌, List, ◌∙◌, ap, append-nil, arith, sym, flat_map, mark_text, line_marks, tail_mark, scene_in}
 use Rattle.mr_picture.proofs.RowLaws.{line_taken}
 use Rattle.mr_picture.proofs.ends.push_tail.Goals as goal
 

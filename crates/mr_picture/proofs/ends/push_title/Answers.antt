@@ -1,10 +1,5 @@
-use Rattle.std.proofs.Common.{◌≡◌, ℕ, List, ◌++◌, subst}
-use Rattle.std.specs.Prelude.{OnOk}
-use Rattle.mr_svg.specs.declared.shape.Shape.TheVariants.{Words}
+use Rattle.mr_picture.proofs.Common.{◌≡◌, ℕ, List, ◌++◌, subst, OnOk, Words, mark_text, mark_of, cut_at}
 use Rattle.mr_svg.specs.declared.shape.Sign.TheVariants as sign
-use Rattle.mr_svg.specs.Svg.{mark_text}
-use Rattle.mr_picture.specs.Steps.{mark_of}
-use Rattle.mr_picture.specs.Texts.{cut_at}
 use Rattle.mr_picture.proofs.ends.push_title.Goals as goal
 
 pub returns : goal.returns

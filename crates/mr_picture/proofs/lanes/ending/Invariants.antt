@@ -1,5 +1,4 @@
-use Rattle.std.specs.Prelude.{◌≡◌, drop}
-use Rattle.mr_picture.specs.Lanes.{ends, first_that}
+use Rattle.mr_picture.proofs.Common.{◌≡◌, drop, ends, first_that}
 use Rattle.mr_picture.proofs.lanes.ending.Given as goal
 
 -- none so far ended it

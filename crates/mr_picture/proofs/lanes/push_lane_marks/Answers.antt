@@ -1,9 +1,4 @@
-use Rattle.std.proofs.Common.{◌≡◌, ℕ, ◌∷◌, [], ◌++◌, ap, subst}
-use Rattle.mr_svg.specs.Svg.{mark_text}
-use Rattle.mr_picture.specs.Lanes.{lane_mark, name_mark}
-use Rattle.mr_picture.specs.Grid.{rows_end}
-use Rattle.std.specs.Prelude.{◌+◌, OnOk}
-use Rattle.mr_picture.specs.Scene.{scene_in}
+use Rattle.mr_picture.proofs.Common.{◌≡◌, ℕ, ◌∷◌, [], ◌++◌, ap, subst, mark_text, lane_mark, name_mark, rows_end, ◌+◌, OnOk, scene_in}
 use Rattle.mr_picture.proofs.Marks.{begun, last_mark, more_mark}
 use Rattle.mr_picture.proofs.lanes.push_lane_marks.Goals as goal
 

@@ -1,7 +1,4 @@
-use Rattle.std.specs.Prelude.{◌≡◌, ◌++◌, flat_map, take}
-use Rattle.mr_svg.specs.Svg.{mark_text}
-use Rattle.mr_picture.specs.Lanes.{lane_marks}
-use Rattle.mr_picture.specs.Scene.{scene_in}
+use Rattle.mr_picture.proofs.Common.{◌≡◌, ◌++◌, flat_map, take, mark_text, lane_marks, scene_in}
 use Rattle.mr_picture.proofs.lanes.push_lanes.Given as goal
 
 -- the lanes before this one are drawn

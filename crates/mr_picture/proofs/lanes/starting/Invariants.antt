@@ -1,5 +1,4 @@
-use Rattle.std.specs.Prelude.{◌≡◌, drop}
-use Rattle.mr_picture.specs.Lanes.{first_that, starts}
+use Rattle.mr_picture.proofs.Common.{◌≡◌, drop, first_that, starts}
 use Rattle.mr_picture.proofs.lanes.starting.Given as goal
 
 -- none so far started it

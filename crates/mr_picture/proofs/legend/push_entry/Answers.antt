@@ -1,8 +1,4 @@
-use Rattle.std.proofs.Common.{◌∷◌, []}
-use Rattle.mr_svg.specs.Svg.{mark_text}
-use Rattle.mr_picture.specs.Legend.{words_mark}
-use Rattle.mr_picture.specs.Scene.{scene_in}
-use Rattle.mr_picture.specs.Steps.{mark_of}
+use Rattle.mr_picture.proofs.Common.{◌∷◌, [], mark_text, words_mark, scene_in, mark_of}
 use Rattle.mr_picture.proofs.Marks.{begun, last_mark, more_mark}
 use Rattle.mr_picture.proofs.legend.push_entry.Goals as goal
 

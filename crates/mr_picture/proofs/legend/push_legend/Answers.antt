@@ -1,6 +1,4 @@
-use Rattle.mr_svg.specs.Svg.{mark_text}
-use Rattle.mr_picture.specs.Legend.{link_entries, step_entries}
-use Rattle.mr_picture.specs.Scene.{scene_in}
+use Rattle.mr_picture.proofs.Common.{mark_text, link_entries, step_entries, scene_in}
 use Rattle.mr_picture.proofs.Marks.{last_marks}
 use Rattle.mr_picture.proofs.legend.push_legend.Goals as goal
 

@@ -1,9 +1,5 @@
-use Rattle.std.proofs.Common.{◌++◌}
-use Rattle.std.specs.Prelude.{codes}
+use Rattle.mr_picture.proofs.Common.{◌++◌, codes, mark_text, arrow_entry, race_entry, scene_in}
 use Rattle.mr_svg.specs.declared.shape.Sign.TheVariants as sign
-use Rattle.mr_svg.specs.Svg.{mark_text}
-use Rattle.mr_picture.specs.Legend.{arrow_entry, race_entry}
-use Rattle.mr_picture.specs.Scene.{scene_in}
 use Rattle.mr_picture.proofs.Marks.{last_marks, more_marks}
 use Rattle.mr_picture.proofs.legend.push_link_entries.Goals as goal
 

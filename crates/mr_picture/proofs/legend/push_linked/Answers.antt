@@ -1,10 +1,6 @@
-use Rattle.std.proofs.Common.{◌∷◌, [], ◌∙◌, ap₂, ◌++◌}
-use Rattle.mr_svg.specs.Svg.{mark_text}
-use Rattle.mr_svg.specs.declared.shape.Point.{Point}
+use Rattle.mr_picture.proofs.Common.{◌∷◌, [], ◌∙◌, ◌++◌, mark_text, Point, sample, words_mark, scene_in, mark_of}
+use Rattle.std.proofs.Common.{ap₂}
 use Rattle.mr_svg.specs.declared.shape.Shape.TheVariants.{Line}
-use Rattle.mr_picture.specs.Legend.{sample, words_mark}
-use Rattle.mr_picture.specs.Scene.{scene_in}
-use Rattle.mr_picture.specs.Steps.{mark_of}
 use Rattle.mr_picture.proofs.Marks.{begun, last_mark, more_mark}
 use Rattle.mr_picture.proofs.legend.push_linked.Goals as goal
 

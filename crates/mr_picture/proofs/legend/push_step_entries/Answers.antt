@@ -1,11 +1,5 @@
-use Rattle.std.proofs.Common.{◌≡◌, ◌++◌, ◌∙◌, ap, subst}
-use Rattle.std.specs.Prelude.{OnOk, codes, flat_map}
-use Rattle.mr_svg.specs.declared.shape.Point.{Point}
-use Rattle.mr_svg.specs.declared.shape.Shape.TheVariants.{Diamond, Dot, Square}
+use Rattle.mr_picture.proofs.Common.{◌≡◌, ◌++◌, ◌∙◌, ap, subst, OnOk, codes, flat_map, Point, Diamond, Dot, Square, mark_text, entry, middle, scene_in}
 use Rattle.mr_svg.specs.declared.shape.Sign.TheVariants as sign
-use Rattle.mr_svg.specs.Svg.{mark_text}
-use Rattle.mr_picture.specs.Legend.{entry, middle}
-use Rattle.mr_picture.specs.Scene.{scene_in}
 use Rattle.mr_picture.proofs.Marks.{last_marks, more_marks}
 use Rattle.mr_picture.proofs.legend.push_step_entries.Goals as goal
 

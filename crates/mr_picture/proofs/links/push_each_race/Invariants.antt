@@ -1,7 +1,4 @@
-use Rattle.std.specs.Prelude.{◌≡◌, ◌++◌, flat_map, map, take}
-use Rattle.mr_svg.specs.Svg.{mark_text}
-use Rattle.mr_picture.specs.Links.{race_mark}
-use Rattle.mr_picture.specs.Scene.{scene_in}
+use Rattle.mr_picture.proofs.Common.{◌≡◌, ◌++◌, flat_map, map, take, mark_text, race_mark, scene_in}
 use Rattle.mr_picture.proofs.links.push_each_race.Given as goal
 
 -- the races before this one are drawn

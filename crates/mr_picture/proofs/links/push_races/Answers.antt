@@ -1,8 +1,5 @@
-use Rattle.std.proofs.Common.{List, subst, sym, ◌∙◌}
-use Rattle.std.specs.Prelude.{All}
-use Rattle.mr_event.specs.declared.footprint.Pair.{Pair}
+use Rattle.mr_picture.proofs.Common.{List, subst, sym, ◌∙◌, All, Pair, IsRace, scene_in}
 use Rattle.mr_picture.proofs.Within.{races_within}
-use Rattle.mr_picture.specs.Scene.{IsRace, scene_in}
 use Rattle.mr_picture.proofs.links.push_races.Goals as goal
 
 pub push_each_race-requires-clause-within : goal.push_each_race-requires-clause-within

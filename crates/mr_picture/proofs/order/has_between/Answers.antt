@@ -1,5 +1,4 @@
-use Rattle.std.proofs.Common.{◌+◌, sym, arith, ◌∙◌}
-use Rattle.mr_picture.specs.Arrows.{lies_between}
+use Rattle.mr_picture.proofs.Common.{◌+◌, sym, arith, ◌∙◌, lies_between}
 use Rattle.mr_picture.proofs.Turns.{none_passes, one_passes}
 use Rattle.mr_picture.proofs.order.has_between.Goals as goal
 

@@ -1,6 +1,4 @@
-use Rattle.std.specs.Prelude.{◌≡◌, ◌+◌, ◌-◌, ◌≤◌, false}
-use Rattle.std.specs.List.{list_any, range_with_len}
-use Rattle.mr_picture.specs.Arrows.{lies_between}
+use Rattle.mr_picture.proofs.Common.{◌≡◌, ◌+◌, ◌-◌, ◌≤◌, false, list_any, range_with_len, lies_between}
 use Rattle.mr_picture.proofs.order.has_between.Given as goal
 
 -- none of the steps before this one lies between

@@ -1,6 +1,4 @@
-use Rattle.mr_event.specs.Order.{HappensBefore}
-use Rattle.mr_event.specs.Predicted.{happens_before}
-use Rattle.mr_event.proofs.Tests.{happens_before_is}
+use Rattle.mr_picture.proofs.Common.{HappensBefore, happens_before, happens_before_is}
 use Rattle.mr_picture.proofs.Turns.{alike}
 use Rattle.mr_picture.proofs.order.is_before.Goals as goal
 

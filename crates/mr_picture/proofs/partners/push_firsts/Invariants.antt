@@ -1,5 +1,4 @@
-use Rattle.std.specs.Prelude.{◌≡◌, ◌++◌, flat_map, take}
-use Rattle.std.specs.List.{filter}
+use Rattle.mr_picture.proofs.Common.{◌≡◌, ◌++◌, flat_map, take, filter}
 use Rattle.mr_picture.specs.Partners.{first_text, is_second}
 use Rattle.mr_picture.proofs.partners.push_firsts.Given as goal
 

@@ -1,5 +1,4 @@
-use Rattle.std.proofs.Common.{◌+◌}
-use Rattle.std.specs.Prelude.{codes, decimal}
+use Rattle.mr_picture.proofs.Common.{◌+◌, codes, decimal}
 use Rattle.mr_listing.proofs.Appended.{last_behind}
 use Rattle.mr_picture.specs.Partners.{partner_text}
 use Rattle.mr_picture.proofs.partners.push_partner.Goals as goal

@@ -1,6 +1,4 @@
-use Rattle.std.proofs.Common.{◌≡◌, ◌-◌, ◌∙◌, ap, arith}
-use Rattle.std.specs.List.{filter, range_with_len}
-use Rattle.mr_picture.specs.Scene.{takes_one}
+use Rattle.mr_picture.proofs.Common.{◌≡◌, ◌-◌, ◌∙◌, ap, arith, filter, range_with_len, takes_one}
 use Rattle.mr_picture.proofs.Turns.{joins_tested}
 use Rattle.mr_picture.proofs.scene.threads_of.Goals as goal
 

@@ -1,6 +1,4 @@
-use Rattle.std.specs.Prelude.{◌≡◌, ◌-◌, ◌≤◌}
-use Rattle.std.specs.List.{filter, range_with_len}
-use Rattle.mr_picture.specs.Scene.{takes_one}
+use Rattle.mr_picture.proofs.Common.{◌≡◌, ◌-◌, ◌≤◌, filter, range_with_len, takes_one}
 use Rattle.mr_picture.proofs.scene.threads_of.Given as goal
 
 -- those before this one are there

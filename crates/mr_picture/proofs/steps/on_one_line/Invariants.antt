@@ -1,4 +1,4 @@
-use Rattle.std.specs.Prelude.{◌≡◌, flat_map, take}
+use Rattle.mr_picture.proofs.Common.{◌≡◌, flat_map, take}
 use Rattle.mr_picture.specs.Steps.{joined}
 use Rattle.mr_picture.proofs.steps.on_one_line.Given as goal
 

@@ -1,9 +1,4 @@
-use Rattle.std.proofs.Common.{◌++◌, ◌∙◌, ap, arith}
-use Rattle.std.specs.Prelude.{flat_map}
-use Rattle.std.specs.List.{range_with_len}
-use Rattle.mr_svg.specs.Svg.{mark_text}
-use Rattle.mr_picture.specs.Scene.{scene_in}
-use Rattle.mr_picture.specs.Steps.{row_marks}
+use Rattle.mr_picture.proofs.Common.{◌++◌, ◌∙◌, ap, arith, flat_map, range_with_len, mark_text, scene_in, row_marks}
 use Rattle.mr_picture.proofs.Turns.{all_met}
 use Rattle.mr_picture.proofs.Marks.{row_behind}
 use Rattle.mr_picture.proofs.steps.push_rows.Goals as goal

@@ -1,8 +1,4 @@
-use Rattle.std.specs.Prelude.{◌≡◌, ◌++◌, ◌-◌, ◌≤◌, flat_map, max}
-use Rattle.std.specs.List.{range_with_len}
-use Rattle.mr_svg.specs.Svg.{mark_text}
-use Rattle.mr_picture.specs.Scene.{scene_in}
-use Rattle.mr_picture.specs.Steps.{row_marks}
+use Rattle.mr_picture.proofs.Common.{◌≡◌, ◌++◌, ◌-◌, ◌≤◌, flat_map, max, range_with_len, mark_text, scene_in, row_marks}
 use Rattle.mr_picture.proofs.steps.push_rows.Given as goal
 
 -- the rows before this one are drawn

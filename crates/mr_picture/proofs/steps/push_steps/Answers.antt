@@ -1,6 +1,4 @@
-use Rattle.mr_svg.specs.Svg.{mark_text}
-use Rattle.mr_picture.specs.Scene.{scene_in}
-use Rattle.mr_picture.specs.Steps.{step_marks}
+use Rattle.mr_picture.proofs.Common.{mark_text, scene_in, step_marks}
 use Rattle.mr_picture.proofs.Marks.{marks_behind}
 use Rattle.mr_picture.proofs.steps.push_steps.Goals as goal
 

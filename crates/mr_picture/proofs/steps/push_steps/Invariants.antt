@@ -1,7 +1,4 @@
-use Rattle.std.specs.Prelude.{◌≡◌, ◌++◌, flat_map, take}
-use Rattle.mr_svg.specs.Svg.{mark_text}
-use Rattle.mr_picture.specs.Scene.{scene_in}
-use Rattle.mr_picture.specs.Steps.{step_marks}
+use Rattle.mr_picture.proofs.Common.{◌≡◌, ◌++◌, flat_map, take, mark_text, scene_in, step_marks}
 use Rattle.mr_picture.proofs.steps.push_steps.Given as goal
 
 -- the steps before this one are drawn

@@ -1,7 +1,4 @@
-use Rattle.std.proofs.Common.{◌+◌, ◌∙◌, ap, sym, arith}
-use Rattle.std.proofs.lemmas.Bool.{eq-eqb, ne_eqb}
-use Rattle.std.specs.Prelude.{◌==◌, not}
-use Rattle.mr_event.specs.Order.{thread_at}
+use Rattle.mr_picture.proofs.Common.{◌+◌, ◌∙◌, ap, sym, arith, eq-eqb, ne_eqb, ◌==◌, not, thread_at}
 use Rattle.mr_picture.proofs.Turns.{none_passes, one_passes}
 use Rattle.mr_picture.proofs.way.is_first_behind.Goals as goal
 

@@ -1,6 +1,4 @@
-use Rattle.std.specs.Prelude.{◌≡◌, ◌+◌, ◌-◌, ◌≤◌, ◌==◌, false}
-use Rattle.std.specs.List.{list_any, range_with_len}
-use Rattle.mr_event.specs.Order.{thread_at}
+use Rattle.mr_picture.proofs.Common.{◌≡◌, ◌+◌, ◌-◌, ◌≤◌, ◌==◌, false, list_any, range_with_len, thread_at}
 use Rattle.mr_picture.proofs.way.is_first_behind.Given as goal
 
 -- none of the steps before this one is of the thread

@@ -1,6 +1,4 @@
-use Rattle.std.proofs.Common.{◌≡◌, ◌-◌, ◌∙◌, suc, ap, arith, sym}
-use Rattle.mr_event.specs.Predicted.{greatest_below}
-use Rattle.mr_picture.specs.Way.{leads}
+use Rattle.mr_picture.proofs.Common.{◌≡◌, ◌-◌, ◌∙◌, suc, ap, arith, sym, greatest_below, leads}
 use Rattle.mr_picture.proofs.WayLaws.{found_below}
 use Rattle.mr_picture.proofs.way.next_step.Goals as goal
 

@@ -1,6 +1,4 @@
-use Rattle.std.specs.Prelude.{◌≡◌, ◌≤◌}
-use Rattle.mr_event.specs.Predicted.{greatest_below}
-use Rattle.mr_picture.specs.Way.{leads, next_step}
+use Rattle.mr_picture.proofs.Common.{◌≡◌, ◌≤◌, greatest_below, leads, next_step}
 use Rattle.mr_picture.proofs.way.next_step.Given as goal
 
 -- no step from this one on leads on

@@ -1,7 +1,5 @@
-use Rattle.std.proofs.Common.{◌≡◌, ◌∙◌, ◌++◌, ◌<◌, ◌-◌, List, [], ◌∷◌, ℕ, suc, append-nil, append_assoc, ap, arith, length, subst, sym}
-use Rattle.std.specs.Prelude.{All}
+use Rattle.mr_picture.proofs.Common.{◌≡◌, ◌∙◌, ◌++◌, ◌<◌, ◌-◌, List, [], ◌∷◌, ℕ, suc, append-nil, append_assoc, ap, arith, length, subst, sym, All, way_within}
 use Rattle.std.proofs.lemmas.List.Elements.{All-push}
-use Rattle.mr_picture.specs.Way.{way_within}
 use Rattle.mr_picture.proofs.WayLaws.{way_ends, way_goes}
 use Rattle.mr_picture.proofs.way.way_to.Goals as goal
 

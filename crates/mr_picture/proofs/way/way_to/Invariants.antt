@@ -1,5 +1,4 @@
-use Rattle.std.specs.Prelude.{◌≡◌, ◌++◌, ◌<◌, All, length}
-use Rattle.mr_picture.specs.Way.{way, way_within}
+use Rattle.mr_picture.proofs.Common.{◌≡◌, ◌++◌, ◌<◌, All, length, way, way_within}
 use Rattle.mr_picture.proofs.way.way_to.Given as goal
 
 -- the way goes on from here as it does, within the steps that are left

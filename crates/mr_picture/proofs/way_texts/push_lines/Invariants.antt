@@ -1,5 +1,4 @@
-use Rattle.std.specs.Prelude.{◌≡◌, ◌++◌, ◌<◌, drop, length}
-use Rattle.mr_listing.specs.Seen.{seen}
+use Rattle.mr_picture.proofs.Common.{◌≡◌, ◌++◌, ◌<◌, drop, length, seen}
 use Rattle.mr_picture.specs.WayTexts.{way_lines}
 use Rattle.mr_picture.proofs.way_texts.push_lines.Given as goal
 

@@ -1,6 +1,4 @@
-use Rattle.std.specs.Prelude.{max, ◌≡◌, ◌-◌, ◌≤◌}
-use Rattle.std.specs.List.{filter, range_with_len}
-use Rattle.mr_picture.specs.Witness.{is_left_out}
+use Rattle.mr_picture.proofs.Common.{max, ◌≡◌, ◌-◌, ◌≤◌, filter, range_with_len, is_left_out}
 use Rattle.mr_picture.proofs.witness.left_out.Given as goal
 
 -- those before this one are there

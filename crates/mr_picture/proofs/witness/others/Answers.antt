@@ -1,6 +1,4 @@
-use Rattle.std.proofs.Common.{◌∙◌, ap, arith}
-use Rattle.std.specs.List.{filter, range_with_len}
-use Rattle.mr_picture.specs.Witness.{is_other}
+use Rattle.mr_picture.proofs.Common.{◌∙◌, ap, arith, filter, range_with_len, is_other}
 use Rattle.mr_picture.proofs.Turns.{all_met, joins_tested}
 use Rattle.mr_picture.proofs.witness.others.Goals as goal
 

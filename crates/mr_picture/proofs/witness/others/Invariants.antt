@@ -1,6 +1,4 @@
-use Rattle.std.specs.Prelude.{max, ◌≡◌, ◌-◌, ◌≤◌}
-use Rattle.std.specs.List.{filter, range_with_len}
-use Rattle.mr_picture.specs.Witness.{is_other}
+use Rattle.mr_picture.proofs.Common.{max, ◌≡◌, ◌-◌, ◌≤◌, filter, range_with_len, is_other}
 use Rattle.mr_picture.proofs.witness.others.Given as goal
 
 -- those before this one are there

@@ -1,5 +1,4 @@
-use Rattle.std.proofs.Common.{◌<◌, arith, ap, sym, ◌∙◌, bytes_eq, length}
-use Rattle.std.specs.Option.{option_map}
+use Rattle.mr_places.proofs.Common.{◌<◌, arith, ap, sym, ◌∙◌, bytes_eq, length, option_map}
 use Rattle.mr_lex.specs.Tokens.{lexeme_of}
 use Rattle.mr_places.proofs.LaidLaws.{end_step, other_step, none_past}
 use Rattle.mr_places.proofs.ends.ends_in.Goals as goal

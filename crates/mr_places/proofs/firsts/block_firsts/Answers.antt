@@ -1,4 +1,4 @@
-use Rattle.std.proofs.Common.{ap, ◌∙◌, ◌+◌, length}
+use Rattle.mr_places.proofs.Common.{ap, ◌∙◌, ◌+◌, length}
 use Rattle.mr_places.proofs.LaidLaws.{block_step, item_at}
 use Rattle.mr_places.proofs.firsts.block_firsts.Goals as goal
 

@@ -1,7 +1,4 @@
-use Rattle.std.proofs.Common.{map, ap, ◌∙◌}
-use Rattle.std.proofs.lemmas.List.{map-append}
-use Rattle.mr_places.specs.Laid.{firsts_of_blocks}
-use Rattle.mr_places.specs.Places.{ends_of_blocks}
+use Rattle.mr_places.proofs.Common.{map, ap, ◌∙◌, map-append, firsts_of_blocks, ends_of_blocks}
 use Rattle.mr_places.proofs.LaidLaws.{function_step, item_at}
 use Rattle.mr_places.proofs.firsts.firsts.Goals as goal
 

@@ -1,5 +1,4 @@
-use Rattle.std.proofs.Common.{arith}
-use Rattle.mr_ast.specs.Canon.{argument_words}
+use Rattle.mr_print.proofs.Common.{arith, argument_words}
 use Rattle.mr_print.proofs.AppendLaws.{with_commas_at}
 use Rattle.mr_print.proofs.program.print_arguments.Goals as goal
 

@@ -1,7 +1,4 @@
-use Rattle.std.proofs.Common.{◌≡◌, map, take}
-use Rattle.mr_ast.specs.Canon.{argument_words}
-use Rattle.mr_ast.specs.CanonTypes.{with_commas}
-use Rattle.mr_print.specs.Appends.{with_words}
+use Rattle.mr_print.proofs.Common.{◌≡◌, map, take, argument_words, with_commas, with_words}
 use Rattle.mr_print.proofs.program.print_arguments.Given as goal
 
 abbrev pub invariant-loop-i : goal.invariant-loop-i

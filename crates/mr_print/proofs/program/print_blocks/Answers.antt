@@ -1,5 +1,4 @@
-use Rattle.std.proofs.Common.{arith}
-use Rattle.mr_ast.specs.Canon.{block_lines}
+use Rattle.mr_print.proofs.Common.{arith, block_lines}
 use Rattle.mr_print.proofs.AppendLaws.{with_lines_item}
 use Rattle.mr_print.proofs.program.print_blocks.Goals as goal
 

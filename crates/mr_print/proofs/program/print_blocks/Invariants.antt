@@ -1,7 +1,4 @@
-use Rattle.std.proofs.Common.{◌≡◌, take}
-use Rattle.std.specs.Prelude.{flat_map}
-use Rattle.mr_ast.specs.Canon.{block_lines}
-use Rattle.mr_print.specs.Appends.{with_lines}
+use Rattle.mr_print.proofs.Common.{◌≡◌, take, flat_map, block_lines, with_lines}
 use Rattle.mr_print.proofs.program.print_blocks.Given as goal
 
 abbrev pub invariant-loop-block : goal.invariant-loop-block

@@ -1,7 +1,4 @@
-use Rattle.std.proofs.Common.{◌≡◌, take}
-use Rattle.std.specs.Prelude.{flat_map}
-use Rattle.mr_ast.specs.Canon.{function_lines}
-use Rattle.mr_print.specs.Appends.{with_lines}
+use Rattle.mr_print.proofs.Common.{◌≡◌, take, flat_map, function_lines, with_lines}
 use Rattle.mr_print.proofs.program.print_functions.Given as goal
 
 abbrev pub invariant-loop-function : goal.invariant-loop-function

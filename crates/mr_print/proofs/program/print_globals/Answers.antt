@@ -1,5 +1,4 @@
-use Rattle.std.proofs.Common.{arith}
-use Rattle.mr_ast.specs.Canon.{global_line}
+use Rattle.mr_print.proofs.Common.{arith, global_line}
 use Rattle.mr_print.proofs.AppendLaws.{with_line_item}
 use Rattle.mr_print.proofs.program.print_globals.Goals as goal
 

@@ -1,6 +1,4 @@
-use Rattle.std.proofs.Common.{◌≡◌, map, take}
-use Rattle.mr_ast.specs.Canon.{global_line}
-use Rattle.mr_print.specs.Appends.{with_lines}
+use Rattle.mr_print.proofs.Common.{◌≡◌, map, take, global_line, with_lines}
 use Rattle.mr_print.proofs.program.print_globals.Given as goal
 
 abbrev pub invariant-loop-global : goal.invariant-loop-global

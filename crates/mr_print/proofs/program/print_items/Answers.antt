@@ -1,5 +1,4 @@
-use Rattle.std.proofs.Common.{arith}
-use Rattle.mr_ast.specs.Canon.{words_of_item}
+use Rattle.mr_print.proofs.Common.{arith, words_of_item}
 use Rattle.mr_print.proofs.AppendLaws.{with_rows_at}
 use Rattle.mr_print.proofs.program.print_items.Goals as goal
 

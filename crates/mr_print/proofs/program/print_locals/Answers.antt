@@ -1,5 +1,4 @@
-use Rattle.std.proofs.Common.{arith}
-use Rattle.mr_ast.specs.Canon.{local_words}
+use Rattle.mr_print.proofs.Common.{arith, local_words}
 use Rattle.mr_print.proofs.AppendLaws.{with_commas_item}
 use Rattle.mr_print.proofs.program.print_locals.Goals as goal
 

@@ -1,5 +1,4 @@
-use Rattle.std.proofs.Common.{arith}
-use Rattle.mr_ast.specs.Canon.{stmt_line, texts_in}
+use Rattle.mr_print.proofs.Common.{arith, stmt_line, texts_in}
 use Rattle.mr_print.proofs.AppendLaws.{with_line_item}
 use Rattle.mr_print.proofs.program.print_stmts.Goals as goal
 

@@ -1,6 +1,4 @@
-use Rattle.std.proofs.Common.{◌≡◌, map, take}
-use Rattle.mr_ast.specs.Canon.{stmt_line, texts_in}
-use Rattle.mr_print.specs.Appends.{with_lines}
+use Rattle.mr_print.proofs.Common.{◌≡◌, map, take, stmt_line, texts_in, with_lines}
 use Rattle.mr_print.proofs.program.print_stmts.Given as goal
 
 abbrev pub invariant-loop-stmt : goal.invariant-loop-stmt

@@ -1,5 +1,4 @@
-use Rattle.std.proofs.Common.{arith}
-use Rattle.mr_ast.specs.Canon.{target_words, texts_in}
+use Rattle.mr_print.proofs.Common.{arith, target_words, texts_in}
 use Rattle.mr_print.proofs.AppendLaws.{with_rows_at}
 use Rattle.mr_print.proofs.stmts.print_cases.Goals as goal
 

@@ -1,7 +1,4 @@
-use Rattle.std.proofs.Common.{◌≡◌, take}
-use Rattle.std.specs.Prelude.{flat_map}
-use Rattle.mr_ast.specs.Canon.{target_words, texts_in}
-use Rattle.mr_print.specs.Appends.{with_words}
+use Rattle.mr_print.proofs.Common.{◌≡◌, take, flat_map, target_words, texts_in, with_words}
 use Rattle.mr_print.proofs.stmts.print_cases.Given as goal
 
 abbrev pub invariant-loop-case : goal.invariant-loop-case

@@ -1,4 +1,4 @@
-use Rattle.mr_ast.specs.Canon.{words_of_term}
+use Rattle.mr_print.proofs.Common.{words_of_term}
 use Rattle.mr_print.proofs.AppendLaws.{with_words-cons, with_words-none}
 use Rattle.mr_print.proofs.stmts.print_term.Goals as goal
 

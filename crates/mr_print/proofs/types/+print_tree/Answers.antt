@@ -1,5 +1,4 @@
-use Rattle.std.proofs.Common.{arith}
-use Rattle.mr_ast.specs.CanonTypes.{case_words}
+use Rattle.mr_print.proofs.Common.{arith, case_words}
 use Rattle.mr_print.proofs.AppendLaws.{with_rows_item}
 use Rattle.mr_print.proofs.types.+print_tree.Goals as goal
 

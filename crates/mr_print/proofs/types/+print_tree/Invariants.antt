@@ -1,7 +1,4 @@
-use Rattle.std.proofs.Common.{◌≡◌, take}
-use Rattle.std.specs.Prelude.{flat_map}
-use Rattle.mr_ast.specs.CanonTypes.{case_words}
-use Rattle.mr_print.specs.Appends.{with_words}
+use Rattle.mr_print.proofs.Common.{◌≡◌, take, flat_map, case_words, with_words}
 use Rattle.mr_print.proofs.types.+print_tree.Given as goal
 
 abbrev pub invariant-print_cases-loop-case : goal.invariant-print_cases-loop-case

@@ -1,5 +1,4 @@
-use Rattle.std.proofs.Common.{arith}
-use Rattle.mr_ast.specs.CanonTypes.{field_words, variant_words}
+use Rattle.mr_print.proofs.Common.{arith, field_words, variant_words}
 use Rattle.mr_print.proofs.AppendLaws.{with_commas_item}
 use Rattle.mr_print.proofs.types.+print_type.Goals as goal
 

@@ -1,7 +1,4 @@
-use Rattle.std.proofs.Common.{◌≡◌, map, take}
-use Rattle.std.specs.Prelude.{codes}
-use Rattle.mr_ast.specs.CanonTypes.{field_words, variant_words, with_commas}
-use Rattle.mr_print.specs.Appends.{with_word, with_words}
+use Rattle.mr_print.proofs.Common.{◌≡◌, map, take, codes, field_words, variant_words, with_commas, with_word, with_words}
 use Rattle.mr_print.proofs.types.+print_type.Given as goal
 
 abbrev pub invariant-print_fields-loop-i : goal.invariant-print_fields-loop-i

@@ -1,5 +1,4 @@
-use Rattle.std.proofs.Common.{arith}
-use Rattle.mr_ast.specs.CanonTypes.{chunk_words}
+use Rattle.mr_print.proofs.Common.{arith, chunk_words}
 use Rattle.mr_print.proofs.AppendLaws.{with_commas_at}
 use Rattle.mr_print.proofs.types.print_chunks.Goals as goal
 

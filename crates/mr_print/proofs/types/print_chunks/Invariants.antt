@@ -1,7 +1,4 @@
-use Rattle.std.proofs.Common.{◌≡◌, map, take}
-use Rattle.std.specs.Prelude.{codes}
-use Rattle.mr_ast.specs.CanonTypes.{chunk_words, with_commas}
-use Rattle.mr_print.specs.Appends.{with_word, with_words}
+use Rattle.mr_print.proofs.Common.{◌≡◌, map, take, codes, chunk_words, with_commas, with_word, with_words}
 use Rattle.mr_print.proofs.types.print_chunks.Given as goal
 
 abbrev pub invariant-loop-i : goal.invariant-loop-i

@@ -1,5 +1,4 @@
-use Rattle.std.proofs.Common.{arith}
-use Rattle.mr_ast.specs.CanonTypes.{tag_words}
+use Rattle.mr_print.proofs.Common.{arith, tag_words}
 use Rattle.mr_print.proofs.AppendLaws.{with_commas_at}
 use Rattle.mr_print.proofs.types.print_tags.Goals as goal
 

@@ -1,7 +1,4 @@
-use Rattle.std.proofs.Common.{◌∷◌, arith}
-use Rattle.std.specs.Prelude.{codes}
-use Rattle.mr_ast.specs.Canon.{texts_in}
-use Rattle.mr_ast.specs.CanonValues.{words_of_value}
+use Rattle.mr_print.proofs.Common.{◌∷◌, arith, codes, texts_in, words_of_value}
 use Rattle.mr_print.proofs.AppendLaws.{with_rows_item}
 use Rattle.mr_print.proofs.values.+print_value.Goals as goal
 

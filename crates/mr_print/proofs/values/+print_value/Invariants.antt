@@ -1,8 +1,4 @@
-use Rattle.std.proofs.Common.{◌≡◌, ◌∷◌, take}
-use Rattle.std.specs.Prelude.{codes, flat_map}
-use Rattle.mr_ast.specs.Canon.{texts_in}
-use Rattle.mr_ast.specs.CanonValues.{words_of_value}
-use Rattle.mr_print.specs.Appends.{with_words}
+use Rattle.mr_print.proofs.Common.{◌≡◌, ◌∷◌, take, codes, flat_map, texts_in, words_of_value, with_words}
 use Rattle.mr_print.proofs.values.+print_value.Given as goal
 
 abbrev pub invariant-print_parts-loop-value : goal.invariant-print_parts-loop-value

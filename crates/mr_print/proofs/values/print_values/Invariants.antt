@@ -1,8 +1,4 @@
-use Rattle.std.proofs.Common.{◌≡◌, map, take}
-use Rattle.mr_ast.specs.Canon.{texts_in}
-use Rattle.mr_ast.specs.CanonTypes.{with_commas}
-use Rattle.mr_ast.specs.CanonValues.{words_of_value}
-use Rattle.mr_print.specs.Appends.{with_words}
+use Rattle.mr_print.proofs.Common.{◌≡◌, map, take, texts_in, with_commas, words_of_value, with_words}
 use Rattle.mr_print.proofs.values.print_values.Given as goal
 
 abbrev pub invariant-loop-i : goal.invariant-loop-i

@@ -1,7 +1,6 @@
-use Rattle.std.proofs.Common.{◌∙◌, ◌++◌, ◌∷◌, [], ap}
+use Rattle.mr_replay.proofs.Common.{◌∙◌, ◌++◌, ◌∷◌, [], ap, rest_of}
 use Rattle.mr_labels.specs.declared.step.Rest.{Rest}
 use Rattle.mr_labels.proofs.Growing.{pushed_next}
-use Rattle.mr_replay.specs.Told.{rest_of}
 use Rattle.mr_replay.proofs.resting.first_rests.Goals as goal
 
 pub loop-thread-preserved : goal.loop-thread-preserved

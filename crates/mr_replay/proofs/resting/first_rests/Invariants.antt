@@ -1,6 +1,4 @@
-use Rattle.std.specs.Prelude.{◌≡◌, map}
-use Rattle.std.specs.List.{range_with_len}
-use Rattle.mr_replay.specs.Told.{rest_of}
+use Rattle.mr_replay.proofs.Common.{◌≡◌, map, range_with_len, rest_of}
 use Rattle.mr_replay.proofs.resting.first_rests.Given as goal
 
 -- the threads before this one were told

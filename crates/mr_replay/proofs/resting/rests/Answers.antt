@@ -1,7 +1,4 @@
-use Rattle.std.proofs.Common.{◌≡◌, ℕ, map, subst}
-use Rattle.std.specs.List.{range_with_len}
-use Rattle.std.specs.Prelude.{IfOk}
-use Rattle.mr_replay.specs.Told.{rest_of}
+use Rattle.mr_replay.proofs.Common.{◌≡◌, ℕ, map, subst, range_with_len, IfOk, rest_of}
 use Rattle.mr_replay.proofs.StandLaws.{threads_are}
 use Rattle.mr_replay.proofs.resting.rests.Goals as goal
 

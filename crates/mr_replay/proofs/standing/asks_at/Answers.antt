@@ -1,8 +1,5 @@
-use Rattle.std.proofs.Common.{◌≡◌, ◌∙◌, List, Some}
-use Rattle.mr_frame.specs.PlanMachine.{State, needs}
+use Rattle.mr_replay.proofs.Common.{◌≡◌, ◌∙◌, List, Some, State, needs, Own, thread_step, asks_at}
 use Rattle.mr_sched.specs.declared.schedule.Ask.{Ask}
-use Rattle.mr_step.specs.ThreadSteps.{Own, thread_step}
-use Rattle.mr_replay.specs.Told.{asks_at}
 use Rattle.mr_replay.proofs.StandLaws.{asks_are, asks_none, has_state, weaker}
 use Rattle.mr_replay.proofs.standing.asks_at.Goals as goal
 

@@ -1,6 +1,4 @@
-use Rattle.std.proofs.Common.{◌∙◌, ◌++◌, ap}
-use Rattle.mr_frame.specs.PlanMachine.{needs}
-use Rattle.mr_step.specs.ThreadSteps.{thread_step}
+use Rattle.mr_replay.proofs.Common.{◌∙◌, ◌++◌, ap, needs, thread_step}
 use Rattle.mr_replay.proofs.standing.enabled_asks.Goals as goal
 
 pub returns : goal.returns

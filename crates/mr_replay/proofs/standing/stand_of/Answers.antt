@@ -1,4 +1,4 @@
-use Rattle.std.proofs.Common.{◌∙◌}
+use Rattle.mr_replay.proofs.Common.{◌∙◌}
 use Rattle.mr_replay.proofs.StandLaws.{stand_is}
 use Rattle.mr_replay.proofs.standing.stand_of.Goals as goal
 

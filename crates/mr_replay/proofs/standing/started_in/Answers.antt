@@ -1,4 +1,4 @@
-use Rattle.std.proofs.Common.{◌∙◌, ap}
+use Rattle.mr_replay.proofs.Common.{◌∙◌, ap}
 use Rattle.mr_replay.specs.Told.{started_by, started_from}
 use Rattle.mr_replay.proofs.standing.started_in.Goals as goal
 

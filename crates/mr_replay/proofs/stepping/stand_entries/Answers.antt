@@ -1,7 +1,5 @@
-use Rattle.std.proofs.Common.{[], ◌++◌, arith, subst}
+use Rattle.mr_replay.proofs.Common.{[], ◌++◌, arith, subst, foot_by, all_steps, all_taken, goes_on, is_refused, left_at, sets_out}
 use Rattle.std.proofs.lemmas.List.{drop_all}
-use Rattle.mr_run.specs.Runs.{foot_by}
-use Rattle.mr_run.proofs.RunLaws.{all_steps, all_taken, goes_on, is_refused, left_at, sets_out}
 use Rattle.mr_replay.proofs.ToldLaws.{all_placed, places_on, starts_placing}
 use Rattle.mr_replay.proofs.stepping.stand_entries.Goals as goal
 

@@ -1,6 +1,5 @@
-use Rattle.std.proofs.Common.{List}
+use Rattle.mr_replay.proofs.Common.{List, IsUnderWay}
 use Rattle.mr_event.specs.Footprint.{Footprint}
-use Rattle.mr_run.proofs.RunLaws.{IsUnderWay}
 use Rattle.mr_replay.proofs.ToldLaws.{IsPlacing}
 use Rattle.mr_replay.proofs.stepping.stand_entries.Given as goal
 

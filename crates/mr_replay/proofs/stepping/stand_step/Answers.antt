@@ -1,4 +1,4 @@
-use Rattle.std.proofs.Common.{◌∙◌, ap, [], ◌∷◌, ◌++◌, Option}
+use Rattle.mr_replay.proofs.Common.{◌∙◌, ap, [], ◌∷◌, ◌++◌, Option}
 use Rattle.mr_labels.specs.declared.step.Stand.{Stand}
 use Rattle.mr_replay.proofs.ToldLaws.{where_ok}
 use Rattle.mr_replay.proofs.stepping.stand_step.Goals as goal

@@ -1,12 +1,7 @@
-use Rattle.std.proofs.Common.{◌≤◌, ◌^◌, ◌++◌, ◌∙◌, ap, arith, length, List, refl, subst, sym}
-use Rattle.std.specs.Prelude.{map}
-use Rattle.mr_sched.specs.declared.schedule.Entry.{Entry}
-use Rattle.mr_run.specs.Runs.{placed}
-use Rattle.mr_labels.specs.declared.step.ToldStep.{ToldStep}
+use Rattle.mr_replay.proofs.Common.{◌≤◌, ◌^◌, ◌++◌, ◌∙◌, ap, arith, length, List, refl, subst, sym, map, Entry, placed, ToldStep, begins, run_refused, run_taken, start_refused, steps_are}
 use Rattle.mr_replay.specs.Stands.{stand_before}
-use Rattle.mr_replay.proofs.ToldLaws.{told_are}
 use Rattle.mr_run.proofs.Places.{has_place}
-use Rattle.mr_run.proofs.RunLaws.{begins, run_refused, run_taken, start_refused, steps_are}
+use Rattle.mr_replay.proofs.ToldLaws.{told_are}
 use Rattle.mr_replay.proofs.stepping.stands.Goals as goal
 
 pub returns-in-Err-clause-answer : goal.returns-in-Err-clause-answer

@@ -1,13 +1,11 @@
-use Rattle.std.proofs.Common.{◌≡◌, ◌∙◌, ap₂, sym, subst, ◌++◌}
-use Rattle.std.specs.Prelude.{IfErr, OnOk, Result, Ok, Err}
+use Rattle.mr_replay.proofs.Common.{◌≡◌, ◌∙◌, ap₂, sym, subst, ◌++◌, OnOk, Result, Ok, Err, Entry, step_rows, if_between}
+use Rattle.std.specs.Prelude.{IfErr}
 use Rattle.mr_run.specs.Runs.{EntryAnswer}
-use Rattle.mr_sched.specs.declared.schedule.Entry.{Entry}
 use Rattle.mr_step.specs.declared.fault.StepFault.{StepFault}
 use Rattle.mr_step.specs.declared.fault.StepFault.TheVariants.{Memory}
 use Rattle.mr_step.specs.Standing.{Standing}
-use Rattle.mr_labels.specs.Table.{step_rows}
 use Rattle.mr_replay.specs.declared.telling.Before.{Before}
-use Rattle.mr_replay.specs.Told.{if_between, told_between}
+use Rattle.mr_replay.specs.Told.{told_between}
 use Rattle.mr_replay.proofs.ToldLaws.{where_ok}
 use Rattle.mr_replay.proofs.telling.made_step.Goals as goal
 

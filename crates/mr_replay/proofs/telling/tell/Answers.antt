@@ -1,14 +1,7 @@
-use Rattle.std.proofs.Common.{◌≤◌, ◌^◌, ◌++◌, ◌∙◌, ap, ap₂, arith, length, List, refl, subst, sym}
-use Rattle.std.specs.Prelude.{flat_map}
+use Rattle.mr_replay.proofs.Common.{◌≤◌, ◌^◌, ◌++◌, ◌∙◌, ap, ap₂, arith, length, List, refl, subst, sym, flat_map, Entry, placed, ToldStep, step_rows, if_between, begins, run_refused, run_taken, start_refused, steps_are}
 use Rattle.mr_ast.specs.declared.program.Program.{Program}
-use Rattle.mr_sched.specs.declared.schedule.Entry.{Entry}
-use Rattle.mr_run.specs.Runs.{placed}
-use Rattle.mr_labels.specs.declared.step.ToldStep.{ToldStep}
-use Rattle.mr_labels.specs.Table.{step_rows}
-use Rattle.mr_replay.specs.Told.{if_between}
-use Rattle.mr_replay.proofs.ToldLaws.{told_are}
 use Rattle.mr_run.proofs.Places.{has_place}
-use Rattle.mr_run.proofs.RunLaws.{begins, run_refused, run_taken, start_refused, steps_are}
+use Rattle.mr_replay.proofs.ToldLaws.{told_are}
 use Rattle.mr_replay.proofs.telling.tell.Goals as goal
 
 pub returns-in-Err-clause-answer : goal.returns-in-Err-clause-answer

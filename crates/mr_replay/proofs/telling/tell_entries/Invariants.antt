@@ -1,6 +1,5 @@
-use Rattle.std.proofs.Common.{List}
+use Rattle.mr_replay.proofs.Common.{List, IsUnderWay}
 use Rattle.mr_event.specs.Footprint.{Footprint}
-use Rattle.mr_run.proofs.RunLaws.{IsUnderWay}
 use Rattle.mr_replay.proofs.ToldLaws.{IsTelling}
 use Rattle.mr_replay.proofs.telling.tell_entries.Given as goal
 

@@ -1,6 +1,4 @@
-use Rattle.std.proofs.Common.{◌∙◌, List, arith, refl, subst, sym}
-use Rattle.mr_clocks.specs.Tracked.{Tracks}
-use Rattle.mr_event.specs.Footprint.{Footprint}
+use Rattle.mr_run.proofs.Common.{◌∙◌, List, arith, refl, subst, sym, Tracks, Footprint}
 use Rattle.mr_run.specs.Records.{AreAnalysed}
 use Rattle.mr_run.proofs.Analysed.{before_it, known_more, known_still, longer, taken_back}
 use Rattle.mr_run.proofs.clocked.join.Goals as goal

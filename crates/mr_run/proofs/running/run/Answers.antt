@@ -1,6 +1,5 @@
-use Rattle.std.proofs.Common.{◌≤◌, ◌^◌, ap, arith, length, List, refl, subst, sym}
-use Rattle.mr_sched.specs.declared.schedule.Entry.{Entry}
-use Rattle.mr_run.specs.Runs.{placed}
+use Rattle.mr_run.proofs.Common.{◌≤◌, ap, arith, length, List, refl, subst, sym, Entry, placed}
+use Rattle.std.proofs.Common.{◌^◌}
 use Rattle.mr_run.proofs.Places.{has_place}
 use Rattle.mr_run.proofs.RunLaws.{begins, run_refused, run_taken, start_refused, steps_are}
 use Rattle.mr_run.proofs.running.run.Goals as goal

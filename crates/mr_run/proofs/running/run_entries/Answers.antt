@@ -1,6 +1,5 @@
-use Rattle.std.proofs.Common.{[], ◌++◌, arith, subst}
+use Rattle.mr_run.proofs.Common.{[], ◌++◌, arith, subst, foot_by}
 use Rattle.std.proofs.lemmas.List.{drop_all}
-use Rattle.mr_run.specs.Runs.{foot_by}
 use Rattle.mr_run.proofs.RunLaws.{all_steps, all_taken, goes_on, is_refused, left_at, sets_out}
 use Rattle.mr_run.proofs.running.run_entries.Goals as goal
 

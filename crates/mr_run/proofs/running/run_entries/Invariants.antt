@@ -1,5 +1,4 @@
-use Rattle.std.proofs.Common.{List}
-use Rattle.mr_event.specs.Footprint.{Footprint}
+use Rattle.mr_run.proofs.Common.{List, Footprint}
 use Rattle.mr_run.proofs.RunLaws.{IsUnderWay}
 use Rattle.mr_run.proofs.running.run_entries.Given as goal
 

@@ -1,5 +1,4 @@
-use Rattle.std.proofs.Common.{◌++◌, ◌∙◌, List, append-nil, subst, sym}
-use Rattle.mr_event.specs.Footprint.{Footprint}
+use Rattle.mr_run.proofs.Common.{◌++◌, ◌∙◌, List, append-nil, subst, sym, Footprint}
 use Rattle.mr_run.proofs.EntryLaws.{last_left, last_there, made_by, none_left, refused_by}
 use Rattle.mr_run.proofs.running.step.Goals as goal
 

@@ -1,5 +1,5 @@
-use Rattle.std.proofs.Common.{◌≡◌, ℕ, ◌<◌, ◌≤◌, btree_map_len}
-use Rattle.mr_runs.specs.Placed.{found}
+use Rattle.mr_runs.proofs.Common.{◌≡◌, ℕ, ◌<◌, ◌≤◌, found}
+use Rattle.std.proofs.Common.{btree_map_len}
 use Rattle.mr_runs.proofs.exchange.clear.Given as goal
 
 abbrev pub invariant-loop-at : goal.invariant-loop-at

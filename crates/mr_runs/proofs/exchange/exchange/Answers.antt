@@ -1,7 +1,4 @@
-use Rattle.std.proofs.Common.{◌∙◌, ℕ, List, cond, ap}
-use Rattle.mr_runs.specs.Exchanged.{begins, staked}
-use Rattle.mr_runs.specs.Pieces.{SeenPiece}
-use Rattle.mr_runs.specs.Placed.{found}
+use Rattle.mr_runs.proofs.Common.{◌∙◌, ℕ, List, cond, ap, begins, staked, SeenPiece, found}
 use Rattle.mr_runs.proofs.ExchangeLaws.{exchanged_from_staked}
 use Rattle.mr_runs.proofs.exchange.exchange.Goals as goal
 

@@ -1,7 +1,4 @@
-use Rattle.std.proofs.Common.{ℕ, List, [], refl, sym, subst, arith}
-use Rattle.std.proofs.lemmas.List.{append-nil}
-use Rattle.mr_runs.specs.Exchanged.{IsSettled}
-use Rattle.mr_runs.specs.Pieces.{SeenPiece}
+use Rattle.mr_runs.proofs.Common.{ℕ, List, [], refl, sym, subst, arith, append-nil, IsSettled, SeenPiece}
 use Rattle.mr_runs.proofs.ExchangeLaws.{next_below, next_taken, settled_step}
 use Rattle.mr_runs.proofs.exchange.settle.Goals as goal
 

@@ -1,5 +1,5 @@
+use Rattle.mr_runs.proofs.Common.{IsSettled}
 use Rattle.std.proofs.Common.{vec_len}
-use Rattle.mr_runs.specs.Exchanged.{IsSettled}
 use Rattle.mr_runs.proofs.exchange.settle.Given as goal
 
 abbrev pub invariant-loop-at : goal.invariant-loop-at

@@ -1,5 +1,4 @@
-use Rattle.std.proofs.Common.{◌∙◌, ap}
-use Rattle.mr_runs.specs.Placed.{found}
+use Rattle.mr_runs.proofs.Common.{◌∙◌, ap, found}
 use Rattle.mr_runs.proofs.ExchangeLaws.{filled_found, given_back}
 use Rattle.mr_runs.proofs.PlacedLaws.{same_as_placed}
 use Rattle.mr_runs.proofs.exchange.stake_all.Goals as goal

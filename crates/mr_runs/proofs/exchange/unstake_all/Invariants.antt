@@ -1,6 +1,4 @@
-use Rattle.std.proofs.Common.{◌≡◌, ℕ, cond, take}
-use Rattle.mr_runs.specs.Exchanged.{begins, unstaked}
-use Rattle.mr_runs.specs.Placed.{found}
+use Rattle.mr_runs.proofs.Common.{◌≡◌, ℕ, cond, take, begins, unstaked, found}
 use Rattle.mr_runs.proofs.exchange.unstake_all.Given as goal
 
 abbrev pub invariant-loop-at : goal.invariant-loop-at

@@ -1,4 +1,4 @@
-use Rattle.std.proofs.Common.{sym, Less}
+use Rattle.mr_runs.proofs.Common.{sym, Less}
 use Rattle.std.specs.Cmp.{nat_cmp_is}
 use Rattle.mr_runs.proofs.FindLaws.{not_greater}
 use Rattle.mr_runs.proofs.finding.first_begin.Goals as goal

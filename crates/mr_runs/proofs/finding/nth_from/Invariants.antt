@@ -1,6 +1,4 @@
-use Rattle.std.proofs.Common.{◌≡◌}
-use Rattle.std.specs.Prelude.{slice_get}
-use Rattle.mr_runs.specs.Placed.{begun_from}
+use Rattle.mr_runs.proofs.Common.{◌≡◌, slice_get, begun_from}
 use Rattle.mr_runs.proofs.finding.nth_from.Given as goal
 
 abbrev pub invariant-loop-begin : goal.invariant-loop-begin

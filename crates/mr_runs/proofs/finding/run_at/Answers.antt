@@ -1,4 +1,4 @@
-use Rattle.std.proofs.Common.{arith}
+use Rattle.mr_runs.proofs.Common.{arith}
 use Rattle.std.proofs.lemmas.Map.Keys.{ge_from_not_lt, le_from_not_gt}
 use Rattle.mr_runs.proofs.FindLaws.{holds_from_last, not_greater, tiled_begins}
 use Rattle.mr_runs.proofs.finding.run_at.Goals as goal

@@ -1,7 +1,4 @@
-use Rattle.std.proofs.Common.{◌≡◌, ◌∙◌, ◌+◌, ◌-◌, ◌<◌, ℕ, length, sym, ap, subst, arith}
-use Rattle.std.proofs.lemmas.Bool.{both_ways}
-use Rattle.mr_runs.specs.Pieces.{SeenPiece, UninitPiece, mark_of, piece_len}
-use Rattle.mr_runs.specs.Placed.{Holds}
+use Rattle.mr_runs.proofs.Common.{◌≡◌, ◌∙◌, ◌+◌, ◌-◌, ◌<◌, ℕ, length, sym, ap, subst, arith, both_ways, SeenPiece, UninitPiece, mark_of, piece_len, Holds}
 use Rattle.mr_runs.proofs.GrowLaws.{ends_at, same_begin, same_holder, uninit_is}
 use Rattle.mr_runs.proofs.grow.growing.Goals as goal
 

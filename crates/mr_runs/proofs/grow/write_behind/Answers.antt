@@ -1,7 +1,4 @@
-use Rattle.std.proofs.Common.{◌≡◌, ◌∙◌, ◌+◌, ℕ, cond, length, Some, None, Option, ap, nat_cmp}
-use Rattle.std.specs.BTreeMap.{is_at}
-use Rattle.mr_runs.specs.Pieces.{SeenPiece, UninitPiece}
-use Rattle.mr_runs.specs.Placed.{found}
+use Rattle.mr_runs.proofs.Common.{◌≡◌, ◌∙◌, ◌+◌, ℕ, cond, length, Some, None, Option, ap, nat_cmp, is_at, SeenPiece, UninitPiece, found}
 use Rattle.mr_runs.proofs.GrowLaws.{found_taken, grown_over, taken_back}
 use Rattle.mr_runs.proofs.grow.write_behind.Goals as goal
 

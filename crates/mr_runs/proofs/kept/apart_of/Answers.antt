@@ -1,8 +1,4 @@
-use Rattle.std.proofs.Common.{◌≡◌, ◌∙◌, ◌+◌, ℕ, length, sym, ap, subst, arith}
-use Rattle.std.proofs.lemmas.List.{length-replicate}
-use Rattle.mr_runs.specs.Pieces.{SeenPiece, bytes_of_piece, piece_len}
-use Rattle.mr_runs.specs.Seen.{seen_piece}
-use Rattle.mr_runs.specs.Stamped.{IsStampedAnew}
+use Rattle.mr_runs.proofs.Common.{◌≡◌, ◌∙◌, ◌+◌, ℕ, length, sym, ap, subst, arith, length-replicate, SeenPiece, bytes_of_piece, piece_len, seen_piece, IsStampedAnew}
 use Rattle.mr_runs.proofs.FindLaws.{holds_end}
 use Rattle.mr_runs.proofs.StampLaws.{IsCopied, copied_all, copied_more, copied_none, part_whole}
 use Rattle.mr_runs.proofs.kept.apart_of.Goals as goal

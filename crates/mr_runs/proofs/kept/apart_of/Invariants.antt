@@ -1,4 +1,4 @@
-use Rattle.std.proofs.Common.{◌-◌}
+use Rattle.mr_runs.proofs.Common.{◌-◌}
 use Rattle.mr_runs.proofs.StampLaws.{IsCopied}
 use Rattle.mr_runs.proofs.kept.apart_of.Given as goal
 

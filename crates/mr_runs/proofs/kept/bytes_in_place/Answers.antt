@@ -1,7 +1,4 @@
-use Rattle.std.proofs.Common.{sym, subst, arith}
-use Rattle.mr_runs.specs.declared.kept.Kept.{Kept}
-use Rattle.mr_runs.specs.declared.kept.Kept.TheVariants.{Whole}
-use Rattle.mr_runs.specs.Stamped.{IsChanged, IsSame, IsSound}
+use Rattle.mr_runs.proofs.Common.{sym, subst, arith, Kept, Whole, IsChanged, IsSame, IsSound}
 use Rattle.mr_runs.proofs.KeptLaws.{same_here, whole_changed, whole_same}
 use Rattle.mr_runs.proofs.kept.bytes_in_place.Goals as goal
 

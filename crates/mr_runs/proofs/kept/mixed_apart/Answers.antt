@@ -1,7 +1,4 @@
-use Rattle.std.proofs.Common.{◌≡◌, ◌∙◌, ◌+◌, ◌≤◌, ℕ, List, length, map, ap, arith}
-use Rattle.std.proofs.lemmas.List.{length-map, with_items_is}
-use Rattle.mr_runs.specs.Numbers.{number_of}
-use Rattle.mr_runs.specs.Ranges.{with_range_replaced}
+use Rattle.mr_runs.proofs.Common.{◌≡◌, ◌∙◌, ◌+◌, ◌≤◌, ℕ, List, length, map, ap, arith, length-map, with_items_is, number_of, with_range_replaced}
 use Rattle.mr_runs.proofs.StampLaws.{mixed_anew}
 use Rattle.mr_runs.proofs.RangeLaws.{length-with_range_replaced}
 use Rattle.mr_runs.proofs.kept.mixed_apart.Goals as goal

@@ -1,8 +1,4 @@
-use Rattle.std.proofs.Common.{sym, subst}
-use Rattle.mr_runs.specs.declared.kept.Kept.{Kept}
-use Rattle.mr_runs.specs.declared.kept.Kept.TheVariants.{Split}
-use Rattle.std.proofs.lemmas.Result.{on_ok_weaker}
-use Rattle.mr_runs.specs.Stamped.{IsApart, IsChanged, IsSame, IsSound}
+use Rattle.mr_runs.proofs.Common.{sym, subst, Kept, Split, on_ok_weaker, IsApart, IsChanged, IsSame, IsSound}
 use Rattle.mr_runs.proofs.KeptLaws.{on_err_both, split_same}
 use Rattle.mr_runs.proofs.kept.mixed_if_apart.Goals as goal
 

@@ -1,11 +1,4 @@
-use Rattle.std.proofs.Common.{◌≡◌, ◌∙◌, ◌+◌, ◌≤◌, ℕ, List, length, ap, subst, arith}
-use Rattle.std.proofs.lemmas.List.{with_items_is}
-use Rattle.mr_runs.specs.Contents.{marked_piece}
-use Rattle.mr_runs.specs.Exchanged.{numbers_of}
-use Rattle.mr_runs.specs.Pieces.{bytes_of_piece, mark_of, piece_len}
-use Rattle.mr_runs.specs.Placed.{IsReplaced}
-use Rattle.mr_runs.specs.Ranges.{with_range_replaced}
-use Rattle.mr_runs.specs.Seen.{seen_piece}
+use Rattle.mr_runs.proofs.Common.{◌≡◌, ◌∙◌, ◌+◌, ◌≤◌, ℕ, List, length, ap, subst, arith, with_items_is, marked_piece, numbers_of, bytes_of_piece, mark_of, piece_len, IsReplaced, with_range_replaced, seen_piece}
 use Rattle.mr_runs.proofs.StampLaws.{numbers_within, put_anew}
 use Rattle.mr_runs.proofs.RangeLaws.{length-with_range_replaced}
 use Rattle.mr_runs.proofs.kept.put_apart.Goals as goal

@@ -1,10 +1,4 @@
-use Rattle.std.proofs.Common.{sym, subst}
-use Rattle.std.proofs.lemmas.Result.{IfOk-weaker, on_err_weaker}
-use Rattle.mr_runs.specs.declared.kept.Kept.{Kept}
-use Rattle.mr_runs.specs.declared.kept.Kept.TheVariants.{Whole}
-use Rattle.mr_runs.specs.Pieces.{bytes_of_piece}
-use Rattle.mr_runs.specs.Seen.{seen_piece}
-use Rattle.mr_runs.specs.Stamped.{IsChanged, IsSame, IsSound}
+use Rattle.mr_runs.proofs.Common.{sym, subst, IfOk-weaker, on_err_weaker, Kept, Whole, bytes_of_piece, seen_piece, IsChanged, IsSame, IsSound}
 use Rattle.mr_runs.proofs.KeptLaws.{whole_changed, whole_same}
 use Rattle.mr_runs.proofs.kept.put_if_whole.Goals as goal
 

@@ -1,4 +1,4 @@
-use Rattle.std.proofs.lemmas.Result.{on_err_weaker, on_ok_weaker}
+use Rattle.mr_runs.proofs.Common.{on_err_weaker, on_ok_weaker}
 use Rattle.mr_runs.proofs.KeptLaws.{changed_behind, on_err_always, same_trans}
 use Rattle.mr_runs.proofs.kept.put_mixed.Goals as goal
 

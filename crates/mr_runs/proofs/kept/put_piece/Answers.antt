@@ -1,6 +1,4 @@
-use Rattle.std.proofs.lemmas.Result.{on_err_weaker, on_ok_weaker}
-use Rattle.mr_runs.specs.Pieces.{bytes_of_piece}
-use Rattle.mr_runs.specs.Seen.{seen_piece}
+use Rattle.mr_runs.proofs.Common.{on_err_weaker, on_ok_weaker, bytes_of_piece, seen_piece}
 use Rattle.mr_runs.proofs.KeptLaws.{changed_behind, on_err_always, same_trans}
 use Rattle.mr_runs.proofs.kept.put_piece.Goals as goal
 

@@ -1,7 +1,4 @@
-use Rattle.std.proofs.Common.{◌∙◌, sym, ap, subst}
-use Rattle.mr_runs.specs.declared.kept.Kept.{Kept}
-use Rattle.mr_runs.specs.Stamped.{IsSame, IsSound, entries_of}
-use Rattle.mr_runs.specs.Placed.{bytes_in}
+use Rattle.mr_runs.proofs.Common.{◌∙◌, sym, ap, subst, Kept, IsSame, IsSound, entries_of, bytes_in}
 use Rattle.mr_runs.proofs.KeptLaws.{same_here}
 use Rattle.mr_runs.proofs.kept.set_apart.Goals as goal
 

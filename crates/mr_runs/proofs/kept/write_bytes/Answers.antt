@@ -1,9 +1,4 @@
-use Rattle.std.proofs.Common.{◌≡◌, ◌∙◌, List, length, sym, ap, subst, arith}
-use Rattle.std.proofs.lemmas.List.{length-map}
-use Rattle.std.proofs.lemmas.Result.{on_err_weaker, on_ok_weaker}
-use Rattle.mr_base.specs.declared.byte.AbstractByte.{AbstractByte}
-use Rattle.mr_runs.specs.Numbers.{number_of, with_provenance}
-use Rattle.mr_runs.specs.Stamped.{IsChanged}
+use Rattle.mr_runs.proofs.Common.{◌≡◌, ◌∙◌, List, length, sym, ap, subst, arith, length-map, on_err_weaker, on_ok_weaker, AbstractByte, number_of, with_provenance, IsChanged}
 use Rattle.mr_runs.proofs.KeptLaws.{changed_behind, on_err_always, same_trans}
 use Rattle.mr_runs.proofs.kept.write_bytes.Goals as goal
 

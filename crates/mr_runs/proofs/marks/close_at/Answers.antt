@@ -1,7 +1,4 @@
-use Rattle.std.proofs.Common.{◌≡◌, ◌∙◌, ◌+◌, ◌-◌, sym, ap, arith}
-use Rattle.mr_runs.specs.Contents.{marked_piece}
-use Rattle.mr_runs.specs.Pieces.{SeenPiece, piece_len}
-use Rattle.mr_runs.specs.Windows.{first_piece, piece_past}
+use Rattle.mr_runs.proofs.Common.{◌≡◌, ◌∙◌, ◌+◌, ◌-◌, sym, ap, arith, marked_piece, SeenPiece, piece_len, first_piece, piece_past}
 use Rattle.mr_runs.proofs.FindLaws.{holds_end}
 use Rattle.mr_runs.proofs.RowLaws.{ended_at_end, ended_within}
 use Rattle.mr_runs.proofs.StampLaws.{part_marked, piece_len-marked}

@@ -1,8 +1,4 @@
-use Rattle.std.proofs.Common.{◌≡◌, ◌∙◌, ℕ, ◌-◌, List, [], ◌∷◌, ◌++◌, take, sym, ap, subst, arith}
-use Rattle.mr_runs.specs.Exchanged.{IsBegun}
-use Rattle.mr_runs.specs.Pieces.{SeenPiece, piece_len}
-use Rattle.mr_runs.specs.Placed.{bytes_in}
-use Rattle.mr_runs.specs.Windows.{first_piece, piece_past}
+use Rattle.mr_runs.proofs.Common.{◌≡◌, ◌∙◌, ℕ, ◌-◌, List, [], ◌∷◌, ◌++◌, take, sym, ap, subst, arith, IsBegun, SeenPiece, piece_len, bytes_in, first_piece, piece_past}
 use Rattle.mr_runs.proofs.RowLaws.{begun_front}
 use Rattle.mr_runs.proofs.StampLaws.{part_marked, piece_len-marked}
 use Rattle.mr_runs.proofs.marks.front_of.Goals as goal

@@ -1,12 +1,4 @@
-use Rattle.std.proofs.Common.{◌≡◌, ◌∙◌, ℕ, List, [], ◌∷◌, ◌++◌, Some, sym, ap, inl, inr, arith}
-use Rattle.std.specs.Map.{values_of}
-use Rattle.std.proofs.lemmas.Bool.{both_ways}
-use Rattle.std.proofs.lemmas.Option.{same_Some}
-use Rattle.std.proofs.lemmas.Result.{on_ok_weaker}
-use Rattle.mr_runs.specs.Contents.{marked_piece}
-use Rattle.mr_runs.specs.Exchanged.{last_mark, together}
-use Rattle.mr_runs.specs.Pieces.{SeenPiece, mark_of, piece_len}
-use Rattle.mr_runs.specs.Placed.{total_len}
+use Rattle.mr_runs.proofs.Common.{◌≡◌, ◌∙◌, ℕ, List, [], ◌∷◌, ◌++◌, Some, sym, ap, inl, inr, arith, values_of, both_ways, same_Some, on_ok_weaker, marked_piece, last_mark, together, SeenPiece, mark_of, piece_len, total_len}
 use Rattle.mr_runs.proofs.PlacedLaws.{total_len-append}
 use Rattle.mr_runs.proofs.RowLaws.{last_of_push}
 use Rattle.mr_runs.proofs.StampLaws.{mark_of-marked, piece_len-marked, together_marked}

@@ -1,10 +1,5 @@
-use Rattle.std.proofs.Common.{◌≡◌, ◌+◌, ◌<◌, List, ◌++◌, length, map, sym, subst, arith, get_or}
-use Rattle.std.proofs.lemmas.List.{get_or-map, length-map, take_all}
-use Rattle.mr_base.specs.declared.byte.AbstractByte.{AbstractByte}
-use Rattle.mr_base.specs.declared.byte.AbstractByte.TheVariants.{Uninit}
-use Rattle.mr_runs.specs.Exchanged.{one_piece, IsBegun, IsPushed}
-use Rattle.mr_runs.specs.Pieces.{SeenPiece}
-use Rattle.mr_runs.specs.Stamped.{without_number}
+use Rattle.mr_runs.proofs.Common.{◌≡◌, ◌+◌, ◌<◌, List, ◌++◌, length, map, sym, subst, arith, get_or, length-map, AbstractByte, Uninit, one_piece, IsBegun, IsPushed, SeenPiece, without_number}
+use Rattle.std.proofs.lemmas.List.{get_or-map, take_all}
 use Rattle.mr_runs.proofs.RowLaws.{begun_byte, piece_len-one_piece, total_pushed}
 use Rattle.mr_runs.proofs.marks.push_marks.Goals as goal
 

@@ -1,9 +1,4 @@
-use Rattle.std.proofs.Common.{◌≡◌, ℕ, ◌+◌, ◌≤◌, List, ◌++◌, length, map, take}
-use Rattle.mr_base.specs.declared.byte.AbstractByte.{AbstractByte}
-use Rattle.mr_runs.specs.Exchanged.{IsBegun}
-use Rattle.mr_runs.specs.Pieces.{SeenPiece}
-use Rattle.mr_runs.specs.Placed.{total_len}
-use Rattle.mr_runs.specs.Stamped.{without_number}
+use Rattle.mr_runs.proofs.Common.{◌≡◌, ℕ, ◌+◌, ◌≤◌, List, ◌++◌, length, map, take, AbstractByte, IsBegun, SeenPiece, total_len, without_number}
 use Rattle.mr_runs.proofs.marks.push_marks.Given as goal
 
 abbrev pub invariant-loop-index : goal.invariant-loop-index

@@ -1,7 +1,4 @@
-use Rattle.std.proofs.Common.{◌≡◌, ◌∙◌, ◌+◌, length, take, sym, ap, arith, length-take}
-use Rattle.mr_runs.specs.Contents.{marked_piece}
-use Rattle.mr_runs.specs.Pieces.{bytes_of_piece, piece_len}
-use Rattle.mr_runs.specs.Placed.{bytes_in}
+use Rattle.mr_runs.proofs.Common.{◌≡◌, ◌∙◌, ◌+◌, length, take, sym, ap, arith, length-take, marked_piece, bytes_of_piece, piece_len, bytes_in}
 use Rattle.mr_runs.proofs.ExchangeLaws.{on_ok_both, ready_row, replaced}
 use Rattle.mr_runs.proofs.PlacedLaws.{length-bytes_in, length-bytes_of_piece}
 use Rattle.mr_runs.proofs.RowLaws.{begun_push, begun_room, total_pushed}

@@ -1,7 +1,4 @@
-use Rattle.std.proofs.Common.{◌≡◌, ◌+◌, ◌++◌, length, map, take, sym, ap, arith, length-append, length-take}
-use Rattle.std.proofs.lemmas.List.{length-map}
-use Rattle.mr_runs.specs.Placed.{bytes_in}
-use Rattle.mr_runs.specs.Stamped.{without_number}
+use Rattle.mr_runs.proofs.Common.{◌≡◌, ◌+◌, ◌++◌, length, map, take, sym, ap, arith, length-append, length-take, length-map, bytes_in, without_number}
 use Rattle.mr_runs.proofs.ExchangeLaws.{on_ok_both, ready_row, replaced}
 use Rattle.mr_runs.proofs.PlacedLaws.{length-bytes_in}
 use Rattle.mr_runs.proofs.RowLaws.{begun_room}

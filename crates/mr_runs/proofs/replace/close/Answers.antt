@@ -1,10 +1,7 @@
-use Rattle.std.proofs.Common.{◌∙◌, ◌+◌, ◌-◌, sym, ap, arith}
-use Rattle.mr_runs.specs.Pieces.{piece_len}
-use Rattle.mr_runs.specs.Windows.{piece_past}
+use Rattle.mr_runs.proofs.Common.{◌∙◌, ◌+◌, ◌-◌, sym, ap, arith, piece_len, piece_past, seen_piece}
 use Rattle.mr_runs.proofs.FindLaws.{holds_end}
 use Rattle.mr_runs.proofs.RowLaws.{ended_at_end, ended_within}
 use Rattle.mr_runs.proofs.WindowLaws.{piece_len-first, piece_len-past}
-use Rattle.mr_runs.specs.Seen.{seen_piece}
 use Rattle.mr_runs.proofs.replace.close.Goals as goal
 
 pub returns-then-to-len : goal.returns-then-to-len

@@ -1,7 +1,4 @@
-use Rattle.std.proofs.Common.{◌≡◌, ◌∙◌, ◌+◌, ◌-◌, ◌≤◌, Some, None, length, sym, refl, ap, subst, arith}
-use Rattle.std.proofs.lemmas.Option.{same_Some}
-use Rattle.mr_runs.specs.Numbers.{with_numbers_at, with_provenance, TakesNumbers}
-use Rattle.mr_runs.specs.Pieces.{SeenPiece, bytes_of_piece, mark_of, piece_len}
+use Rattle.mr_runs.proofs.Common.{◌≡◌, ◌∙◌, ◌+◌, ◌-◌, ◌≤◌, Some, None, length, sym, refl, ap, subst, arith, same_Some, with_numbers_at, with_provenance, TakesNumbers, SeenPiece, bytes_of_piece, mark_of, piece_len}
 use Rattle.mr_runs.proofs.FindLaws.{holds_found}
 use Rattle.mr_runs.proofs.InPlaceLaws.{numbers_fit, numbers_put, replaced_in_place}
 use Rattle.mr_runs.proofs.replace.put_in_place.Goals as goal

@@ -1,5 +1,4 @@
-use Rattle.std.proofs.Common.{◌≡◌, ◌+◌, ◌++◌, length, take, refl, arith, length-append, length-take}
-use Rattle.mr_runs.specs.Placed.{bytes_in}
+use Rattle.mr_runs.proofs.Common.{◌≡◌, ◌+◌, ◌++◌, length, take, refl, arith, length-append, length-take, bytes_in}
 use Rattle.mr_runs.proofs.ExchangeLaws.{on_ok_both, ready_row, replaced}
 use Rattle.mr_runs.proofs.PlacedLaws.{length-bytes_in}
 use Rattle.mr_runs.proofs.RowLaws.{begun_room}

@@ -1,9 +1,4 @@
-use Rattle.std.proofs.Common.{◌≡◌, ◌∙◌, ℕ, ◌+◌, ◌-◌, ◌≤◌, Some, None, length, sym, refl, ap, subst, arith}
-use Rattle.std.proofs.lemmas.Bool.{both_ways}
-use Rattle.std.proofs.lemmas.Option.{same_Some}
-use Rattle.mr_runs.specs.Numbers.{IsInPlace}
-use Rattle.mr_runs.specs.Pieces.{SeenPiece, bytes_of_piece, mark_of, piece_len}
-use Rattle.mr_runs.specs.Ranges.{with_range_replaced}
+use Rattle.mr_runs.proofs.Common.{◌≡◌, ◌∙◌, ℕ, ◌+◌, ◌-◌, ◌≤◌, Some, None, length, sym, refl, ap, subst, arith, both_ways, same_Some, IsInPlace, SeenPiece, bytes_of_piece, mark_of, piece_len, with_range_replaced}
 use Rattle.mr_runs.proofs.FindLaws.{holds_found}
 use Rattle.mr_runs.proofs.GrowLaws.{same_begin, same_holder}
 use Rattle.mr_runs.proofs.InPlaceLaws.{in_place_fits, replaced_in_place}

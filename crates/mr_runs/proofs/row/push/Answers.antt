@@ -1,12 +1,4 @@
-use Rattle.std.proofs.Common.{◌≡◌, ◌∙◌, ℕ, List, [], ◌∷◌, ◌++◌, Some, sym, ap, inr, arith}
-use Rattle.std.specs.Map.{values_of}
-use Rattle.std.proofs.lemmas.Bool.{both_ways}
-use Rattle.std.proofs.lemmas.Option.{same_Some}
-use Rattle.std.proofs.lemmas.Result.{on_ok_weaker}
-use Rattle.mr_runs.specs.Exchanged.{last_mark}
-use Rattle.mr_runs.specs.Pieces.{SeenPiece, mark_of}
-use Rattle.mr_runs.specs.Placed.{total_len}
-use Rattle.mr_runs.specs.Seen.{seen_piece}
+use Rattle.mr_runs.proofs.Common.{◌≡◌, ◌∙◌, ℕ, List, [], ◌∷◌, ◌++◌, Some, sym, ap, inr, arith, values_of, both_ways, same_Some, on_ok_weaker, last_mark, SeenPiece, mark_of, total_len, seen_piece}
 use Rattle.mr_runs.proofs.PlacedLaws.{total_len-append}
 use Rattle.mr_runs.proofs.RowLaws.{last_of_push}
 use Rattle.mr_runs.proofs.row.push.Goals as goal

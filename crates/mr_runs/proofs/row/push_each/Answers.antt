@@ -1,8 +1,5 @@
-use Rattle.std.proofs.Common.{◌+◌, arith, get_or}
-use Rattle.mr_base.specs.declared.byte.AbstractByte.TheVariants.{Uninit}
-use Rattle.mr_runs.specs.Exchanged.{one_piece}
+use Rattle.mr_runs.proofs.Common.{◌+◌, arith, get_or, Uninit, one_piece, get_or_default}
 use Rattle.mr_runs.proofs.RowLaws.{begun_byte, piece_len-one_piece, total_pushed}
-use Rattle.std.proofs.lemmas.List.{get_or_default}
 use Rattle.mr_runs.proofs.row.push_each.Goals as goal
 
 pub loop-index-preserved : goal.loop-index-preserved

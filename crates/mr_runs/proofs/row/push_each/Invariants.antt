@@ -1,8 +1,4 @@
-use Rattle.std.proofs.Common.{◌≡◌, ℕ, ◌+◌, ◌≤◌, List, ◌++◌, length, take}
-use Rattle.mr_base.specs.declared.byte.AbstractByte.{AbstractByte}
-use Rattle.mr_runs.specs.Exchanged.{IsBegun}
-use Rattle.mr_runs.specs.Pieces.{SeenPiece}
-use Rattle.mr_runs.specs.Placed.{total_len}
+use Rattle.mr_runs.proofs.Common.{◌≡◌, ℕ, ◌+◌, ◌≤◌, List, ◌++◌, length, take, AbstractByte, IsBegun, SeenPiece, total_len}
 use Rattle.mr_runs.proofs.row.push_each.Given as goal
 
 abbrev pub invariant-loop-index : goal.invariant-loop-index

@@ -1,5 +1,4 @@
-use Rattle.std.proofs.lemmas.Bool.{both_ways}
-use Rattle.mr_base.specs.declared.byte.AbstractByte.TheVariants.{Uninit}
+use Rattle.mr_runs.proofs.Common.{both_ways, Uninit}
 use Rattle.mr_runs.proofs.InPlaceLaws.{are_of_at}
 use Rattle.mr_runs.proofs.run.are_all_of.Goals as goal
 

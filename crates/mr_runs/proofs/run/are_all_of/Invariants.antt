@@ -1,5 +1,4 @@
-use Rattle.std.proofs.Common.{take}
-use Rattle.mr_runs.specs.Numbers.{AreOf}
+use Rattle.mr_runs.proofs.Common.{take, AreOf}
 use Rattle.mr_runs.proofs.run.are_all_of.Given as goal
 
 abbrev pub invariant-loop-byte : goal.invariant-loop-byte

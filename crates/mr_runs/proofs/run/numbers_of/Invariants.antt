@@ -1,5 +1,4 @@
-use Rattle.std.proofs.Common.{◌≡◌, map, take}
-use Rattle.mr_runs.specs.Numbers.{number_of}
+use Rattle.mr_runs.proofs.Common.{◌≡◌, map, take, number_of}
 use Rattle.mr_runs.proofs.run.numbers_of.Given as goal
 
 abbrev pub invariant-loop-byte : goal.invariant-loop-byte

@@ -1,8 +1,5 @@
-use Rattle.std.proofs.Common.{◌≡◌, ◌∙◌, [], ◌∷◌, ◌++◌, refl, sym, ap, arith, map, take, length, length-take}
-use Rattle.std.proofs.lemmas.List.{length-map, map_more}
-use Rattle.mr_base.specs.declared.byte.AbstractByte.TheVariants.{Uninit}
-use Rattle.mr_runs.specs.Numbers.{number_of}
-use Rattle.mr_runs.specs.Ranges.{with_range_replaced}
+use Rattle.mr_runs.proofs.Common.{◌≡◌, ◌∙◌, [], ◌∷◌, ◌++◌, refl, sym, ap, arith, map, take, length, length-take, length-map, Uninit, number_of, with_range_replaced}
+use Rattle.std.proofs.lemmas.List.{map_more}
 use Rattle.mr_runs.proofs.RangeLaws.{range_grows}
 use Rattle.mr_runs.proofs.run.put_numbers.Goals as goal
 

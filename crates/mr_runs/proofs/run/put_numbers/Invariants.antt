@@ -1,6 +1,4 @@
-use Rattle.std.proofs.Common.{◌≡◌, map, take}
-use Rattle.mr_runs.specs.Numbers.{number_of}
-use Rattle.mr_runs.specs.Ranges.{with_range_replaced}
+use Rattle.mr_runs.proofs.Common.{◌≡◌, map, take, number_of, with_range_replaced}
 use Rattle.mr_runs.proofs.run.put_numbers.Given as goal
 
 abbrev pub invariant-loop-index : goal.invariant-loop-index

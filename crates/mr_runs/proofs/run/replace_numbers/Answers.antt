@@ -1,6 +1,4 @@
-use Rattle.std.proofs.Common.{◌≡◌, ◌∙◌, refl, sym, ap, arith, take, length, length-take}
-use Rattle.std.proofs.lemmas.List.{take_more}
-use Rattle.mr_runs.specs.Ranges.{with_range_replaced}
+use Rattle.mr_runs.proofs.Common.{◌≡◌, ◌∙◌, refl, sym, ap, arith, take, length, length-take, take_more, with_range_replaced}
 use Rattle.mr_runs.proofs.RangeLaws.{range_grows}
 use Rattle.mr_runs.proofs.run.replace_numbers.Goals as goal
 

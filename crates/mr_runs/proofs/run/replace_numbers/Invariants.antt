@@ -1,5 +1,4 @@
-use Rattle.std.proofs.Common.{◌≡◌, take}
-use Rattle.mr_runs.specs.Ranges.{with_range_replaced}
+use Rattle.mr_runs.proofs.Common.{◌≡◌, take, with_range_replaced}
 use Rattle.mr_runs.proofs.run.replace_numbers.Given as goal
 
 abbrev pub invariant-loop-index : goal.invariant-loop-index

@@ -1,8 +1,4 @@
-use Rattle.std.proofs.Common.{◌∙◌, ap, subst}
-use Rattle.std.specs.Prelude.{option_copied, slice_get}
-use Rattle.mr_runs.specs.Lent.{lent_pieces, IsLent}
-use Rattle.mr_runs.specs.Pieces.{bytes_of_pieces}
-use Rattle.mr_runs.specs.Stamped.{entries_of}
+use Rattle.mr_runs.proofs.Common.{◌∙◌, ap, subst, option_copied, slice_get, lent_pieces, IsLent, bytes_of_pieces, entries_of}
 use Rattle.mr_runs.proofs.ViewLaws.{lent_byte, window_byte}
 use Rattle.mr_runs.proofs.views.byte_at.Goals as goal
 

@@ -1,8 +1,4 @@
-use Rattle.std.proofs.Common.{◌∙◌, ℕ, List, length, sym, ap, subst, arith}
-use Rattle.std.specs.Prelude.{slice_get}
-use Rattle.mr_runs.specs.declared.kept.Kept.{Kept}
-use Rattle.mr_runs.specs.Placed.{bytes_in}
-use Rattle.mr_runs.specs.Stamped.{IsSound, IsStamped, entries_of, stamped}
+use Rattle.mr_runs.proofs.Common.{◌∙◌, ℕ, List, length, sym, ap, subst, arith, slice_get, Kept, bytes_in, IsSound, IsStamped, entries_of, stamped}
 use Rattle.mr_runs.proofs.StampLaws.{stamped_here}
 use Rattle.mr_runs.proofs.views.byte_of.Goals as goal
 

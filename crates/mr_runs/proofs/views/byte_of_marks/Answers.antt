@@ -1,6 +1,4 @@
-use Rattle.std.proofs.Common.{◌∙◌, ◌-◌, drop, length, get_or, sym, arith}
-use Rattle.std.proofs.lemmas.List.{get_or_default}
-use Rattle.mr_runs.specs.Stamped.{stamped, stamped_piece}
+use Rattle.mr_runs.proofs.Common.{◌∙◌, ◌-◌, drop, length, get_or, sym, arith, get_or_default, stamped, stamped_piece}
 use Rattle.mr_runs.proofs.FindLaws.{byte_of_holder}
 use Rattle.mr_runs.proofs.StampLaws.{holds_stamped, stamped_tiled}
 use Rattle.mr_runs.proofs.ViewLaws.{byte_stamped_init, byte_stamped_uninit}

@@ -1,8 +1,4 @@
-use Rattle.std.proofs.Common.{◌≡◌, ◌∙◌, ◌-◌, ℕ, drop, min, sym, ap, arith}
-use Rattle.mr_runs.specs.Contents.{marked_piece}
-use Rattle.mr_runs.specs.Pieces.{SeenPiece, piece_len}
-use Rattle.mr_runs.specs.Stamped.{stamped_piece}
-use Rattle.mr_runs.specs.Windows.{clipped_piece}
+use Rattle.mr_runs.proofs.Common.{◌≡◌, ◌∙◌, ◌-◌, ℕ, drop, min, sym, ap, arith, marked_piece, SeenPiece, piece_len, stamped_piece, clipped_piece}
 use Rattle.mr_runs.proofs.StampLaws.{piece_len-marked}
 use Rattle.mr_runs.proofs.ViewLaws.{clipped_marked_init, clipped_marked_uninit, clipped_none}
 use Rattle.mr_runs.proofs.views.clipped_marks.Goals as goal

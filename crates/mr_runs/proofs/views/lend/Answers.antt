@@ -1,4 +1,4 @@
-use Rattle.mr_runs.specs.Stamped.{entries_of}
+use Rattle.mr_runs.proofs.Common.{entries_of}
 use Rattle.mr_runs.proofs.StampLaws.{sound_tiled}
 use Rattle.mr_runs.proofs.ViewLaws.{window_bytes, window_maximal}
 use Rattle.mr_runs.proofs.views.lend.Goals as goal

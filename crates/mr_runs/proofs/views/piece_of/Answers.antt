@@ -1,10 +1,4 @@
-use Rattle.std.proofs.Common.{◌∙◌, ℕ, List, length, Some, sym, ap, subst, arith}
-use Rattle.std.specs.Prelude.{slice_get}
-use Rattle.mr_runs.specs.declared.kept.Kept.{Kept}
-use Rattle.mr_runs.specs.Lent.{lent_pieces}
-use Rattle.mr_runs.specs.Stamped.{IsSound, IsStamped, stamped}
-use Rattle.std.specs.Map.{values_of}
-use Rattle.mr_runs.specs.Windows.{first_pieces, pieces_past}
+use Rattle.mr_runs.proofs.Common.{◌∙◌, ℕ, List, length, Some, sym, ap, subst, arith, slice_get, Kept, lent_pieces, IsSound, IsStamped, stamped, values_of, first_pieces, pieces_past}
 use Rattle.mr_runs.proofs.StampLaws.{stamped_here}
 use Rattle.mr_runs.proofs.views.piece_of.Goals as goal
 

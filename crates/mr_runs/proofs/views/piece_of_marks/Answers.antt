@@ -1,9 +1,4 @@
-use Rattle.std.proofs.Common.{◌∙◌, ◌+◌, ℕ, List, length, sym, ap, arith}
-use Rattle.std.specs.Prelude.{option_map, slice_get}
-use Rattle.std.specs.Map.{values_of}
-use Rattle.mr_runs.specs.Pieces.{SeenPiece}
-use Rattle.mr_runs.specs.Stamped.{stamped, stamped_entry}
-use Rattle.mr_runs.specs.Windows.{first_pieces, pieces_past}
+use Rattle.mr_runs.proofs.Common.{◌∙◌, ◌+◌, ℕ, List, length, sym, ap, arith, option_map, slice_get, values_of, SeenPiece, stamped, stamped_entry, first_pieces, pieces_past}
 use Rattle.mr_runs.proofs.FindLaws.{begun_from-holder, holds_end}
 use Rattle.mr_runs.proofs.ViewLaws.{clipped_entry, none_of, nth_ends, nth_within, stamped_piece_from}
 use Rattle.mr_runs.proofs.views.piece_of_marks.Goals as goal

@@ -1,8 +1,4 @@
-use Rattle.std.proofs.Common.{◌∙◌, ◌+◌, ℕ, List, sym, ap, arith}
-use Rattle.std.specs.Prelude.{slice_get}
-use Rattle.std.specs.Map.{values_of}
-use Rattle.mr_runs.specs.Pieces.{SeenPiece}
-use Rattle.mr_runs.specs.Windows.{first_pieces, pieces_past}
+use Rattle.mr_runs.proofs.Common.{◌∙◌, ◌+◌, ℕ, List, sym, ap, arith, slice_get, values_of, SeenPiece, first_pieces, pieces_past}
 use Rattle.mr_runs.proofs.FindLaws.{begun_from-holder}
 use Rattle.mr_runs.proofs.ViewLaws.{clipped_entry, none_of, nth_ends, piece_from_holder}
 use Rattle.mr_runs.proofs.views.piece_of_runs.Goals as goal

@@ -1,4 +1,4 @@
-use Rattle.std.specs.Prelude.{option_copied}
+use Rattle.mr_runs.proofs.Common.{option_copied}
 use Rattle.mr_runs.proofs.ViewLaws.{lent_maximal, lent_part_bytes}
 use Rattle.mr_runs.proofs.views.window.Goals as goal
 

@@ -1,8 +1,4 @@
-use Rattle.std.proofs.Common.{arith, subst}
-use Rattle.std.proofs.lemmas.Result.{on_ok_weaker}
-use Rattle.mr_base.specs.declared.thread.Event.{Event}
-use Rattle.mr_rust_order.specs.Channels.{told_by}
-use Rattle.mr_rust_order.specs.Clocks.{IsJoin}
+use Rattle.mr_rust_order.proofs.Common.{arith, subst, on_ok_weaker, Event, told_by, IsJoin}
 use Rattle.mr_rust_order.proofs.ClockLaws.{join_one, raised_on}
 use Rattle.mr_rust_order.proofs.StepLaws.{clock_made, rows_short}
 use Rattle.mr_rust_order.proofs.analysis.receive_all.Goals as goal

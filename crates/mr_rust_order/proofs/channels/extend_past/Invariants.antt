@@ -1,5 +1,4 @@
-use Rattle.std.proofs.Common.{◌≡◌, ℕ, length}
-use Rattle.mr_rust_order.specs.Channels.{clock_at}
+use Rattle.mr_rust_order.proofs.Common.{◌≡◌, ℕ, length, clock_at}
 use Rattle.mr_rust_order.proofs.channels.extend_past.Given as goal
 
 abbrev pub invariant-loop-k : goal.invariant-loop-k

@@ -1,4 +1,4 @@
-use Rattle.std.proofs.Common.{refl}
+use Rattle.mr_rust_order.proofs.Common.{refl}
 use Rattle.mr_rust_order.proofs.ChannelLaws.{kept_set, put_here}
 use Rattle.mr_rust_order.proofs.channels.put_back.Goals as goal
 

@@ -1,5 +1,4 @@
-use Rattle.std.proofs.Common.{List, ℕ, OnOk, subst, arith}
-use Rattle.mr_rust_order.specs.Clocks.{IsJoin}
+use Rattle.mr_rust_order.proofs.Common.{List, ℕ, OnOk, subst, arith, IsJoin}
 use Rattle.mr_rust_order.proofs.ChannelLaws.{join_past}
 use Rattle.mr_rust_order.proofs.channels.receive.Goals as goal
 

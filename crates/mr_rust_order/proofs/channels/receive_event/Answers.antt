@@ -1,7 +1,4 @@
-use Rattle.std.proofs.Common.{OnOk, sym, subst}
-use Rattle.mr_base.specs.declared.thread.Event.{Event}
-use Rattle.mr_rust_order.specs.Channels.{told_by}
-use Rattle.mr_rust_order.specs.Clocks.{IsJoin}
+use Rattle.mr_rust_order.proofs.Common.{OnOk, sym, subst, Event, told_by, IsJoin}
 use Rattle.mr_rust_order.proofs.ChannelLaws.{told_none}
 use Rattle.mr_rust_order.proofs.channels.receive_event.Goals as goal
 

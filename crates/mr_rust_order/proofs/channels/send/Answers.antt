@@ -1,6 +1,4 @@
-use Rattle.std.proofs.Common.{[], set, refl}
-use Rattle.std.proofs.lemmas.List.{get_or_read}
-use Rattle.std.proofs.lemmas.Result.{on_ok_weaker}
+use Rattle.mr_rust_order.proofs.Common.{[], set, refl, get_or_read, on_ok_weaker}
 use Rattle.mr_rust_order.proofs.ChannelLaws.{sent_one}
 use Rattle.mr_rust_order.proofs.channels.send.Goals as goal
 

@@ -1,7 +1,4 @@
-use Rattle.std.proofs.Common.{ℕ, sym, ◌∙◌, subst}
-use Rattle.std.specs.Prelude.{◌==◌}
-use Rattle.std.proofs.lemmas.Result.{on_ok_weaker}
-use Rattle.mr_rust_order.specs.Channels.{AreSent}
+use Rattle.mr_rust_order.proofs.Common.{ℕ, sym, ◌∙◌, subst, ◌==◌, on_ok_weaker, AreSent}
 use Rattle.mr_rust_order.proofs.ChannelLaws.{ended_none, ended_sent}
 use Rattle.mr_rust_order.proofs.channels.send_ended.Goals as goal
 

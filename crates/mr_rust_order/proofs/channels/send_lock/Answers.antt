@@ -1,7 +1,4 @@
-use Rattle.std.proofs.Common.{OnOk, ◌∙◌, subst}
-use Rattle.mr_base.specs.declared.thread.Event.{Event}
-use Rattle.mr_rust_order.specs.Channels.{AreSent}
-use Rattle.mr_rust_order.specs.Order.{releases}
+use Rattle.mr_rust_order.proofs.Common.{OnOk, ◌∙◌, subst, Event, AreSent, releases}
 use Rattle.mr_rust_order.proofs.ChannelLaws.{released_none}
 use Rattle.mr_rust_order.proofs.channels.send_lock.Goals as goal
 

@@ -1,7 +1,4 @@
-use Rattle.std.proofs.Common.{OnOk, sym, subst}
-use Rattle.mr_base.specs.declared.thread.Event.{Event}
-use Rattle.mr_event.specs.Footprints.{spawns}
-use Rattle.mr_rust_order.specs.Channels.{AreSent}
+use Rattle.mr_rust_order.proofs.Common.{OnOk, sym, subst, Event, spawns, AreSent}
 use Rattle.mr_rust_order.proofs.ChannelLaws.{spawned_none}
 use Rattle.mr_rust_order.proofs.channels.send_spawned.Goals as goal
 

@@ -1,10 +1,4 @@
-use Rattle.std.proofs.Common.{List, ℕ, subst}
-use Rattle.std.specs.Prelude.{◌==◌}
-use Rattle.std.specs.List.{list_any}
-use Rattle.std.proofs.lemmas.Result.{on_ok_weaker}
-use Rattle.mr_base.specs.declared.thread.Event.{Event}
-use Rattle.mr_event.specs.Footprints.{spawns}
-use Rattle.mr_rust_order.specs.Channels.{AreSent}
+use Rattle.mr_rust_order.proofs.Common.{List, ℕ, subst, ◌==◌, list_any, on_ok_weaker, Event, spawns, AreSent}
 use Rattle.mr_rust_order.proofs.ChannelLaws.{sent_threads}
 use Rattle.mr_rust_order.proofs.channels.send_threads.Goals as goal
 

@@ -1,9 +1,5 @@
 use Rattle.mr_rust_order.proofs.ChannelLaws.{sent_more, sent_none}
-use Rattle.std.proofs.Common.{List, ℕ, subst, arith}
-use Rattle.std.specs.Prelude.{◌==◌}
-use Rattle.std.specs.List.{list_any}
-use Rattle.std.proofs.lemmas.List.{take_all}
-use Rattle.mr_rust_order.specs.Channels.{AreSent}
+use Rattle.mr_rust_order.proofs.Common.{List, ℕ, subst, arith, ◌==◌, list_any, take_all, AreSent}
 use Rattle.mr_rust_order.proofs.channels.send_woken.Goals as goal
 
 pub loop-i-init : goal.loop-i-init

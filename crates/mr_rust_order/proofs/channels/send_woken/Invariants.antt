@@ -1,7 +1,4 @@
-use Rattle.std.proofs.Common.{take}
-use Rattle.std.specs.Prelude.{◌==◌}
-use Rattle.std.specs.List.{list_any}
-use Rattle.mr_rust_order.specs.Channels.{AreSent}
+use Rattle.mr_rust_order.proofs.Common.{take, ◌==◌, list_any, AreSent}
 use Rattle.mr_rust_order.proofs.channels.send_woken.Given as goal
 
 abbrev pub invariant-loop-i : goal.invariant-loop-i

@@ -1,5 +1,4 @@
-use Rattle.std.proofs.Common.{[], ◌∙◌, refl}
-use Rattle.std.proofs.lemmas.List.{get_or_read}
+use Rattle.mr_rust_order.proofs.Common.{[], ◌∙◌, refl, get_or_read}
 use Rattle.mr_rust_order.proofs.ChannelLaws.{kept_set}
 use Rattle.mr_rust_order.proofs.channels.take_out.Goals as goal
 

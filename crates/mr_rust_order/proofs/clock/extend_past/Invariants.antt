@@ -1,4 +1,5 @@
-use Rattle.std.proofs.Common.{◌≡◌, ℕ, ◌+◌, ◌≤◌, length, slice_index, vec_len}
+use Rattle.mr_rust_order.proofs.Common.{◌≡◌, ℕ, ◌+◌, ◌≤◌, length, slice_index}
+use Rattle.std.proofs.Common.{vec_len}
 use Rattle.std.specs.Prelude.{vec_capacity}
 use Rattle.mr_rust_order.proofs.clock.extend_past.Given as goal
 

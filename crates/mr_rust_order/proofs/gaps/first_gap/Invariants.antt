@@ -1,6 +1,6 @@
-use Rattle.std.specs.Prelude.{◌≡◌, ◌<◌, drop, length}
+use Rattle.mr_rust_order.proofs.Common.{◌≡◌, ◌<◌, length, Tracks}
+use Rattle.std.specs.Prelude.{drop}
 use Rattle.mr_rust_order.specs.Gaps.{first_gap}
-use Rattle.mr_rust_order.specs.Tracked.{Tracks}
 use Rattle.mr_rust_order.proofs.gaps.first_gap.Given as goal
 
 -- the way from here on has the first link that is left

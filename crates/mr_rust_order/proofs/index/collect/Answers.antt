@@ -1,6 +1,4 @@
-use Rattle.std.proofs.Common.{List, ◌∷◌, [], ◌-◌, ◌^◌, inr, refl, sym, ◌∙◌, subst, arith}
-use Rattle.mr_rust_order.specs.declared.index.Mark.{Mark}
-use Rattle.mr_rust_order.specs.Marks.{IsListed, mark_of}
+use Rattle.mr_rust_order.proofs.Common.{List, ◌∷◌, [], ◌-◌, ◌^◌, inr, refl, sym, ◌∙◌, subst, arith, Mark, IsListed, mark_of}
 use Rattle.mr_rust_order.proofs.MarkLaws.{collected, listed_kept, low_mark, low_read, rows_of, wanted_all, wanted_more}
 use Rattle.mr_rust_order.proofs.index.collect.Goals as goal
 

@@ -1,5 +1,4 @@
-use Rattle.std.proofs.Common.{ℕ, ◌⊎◌}
-use Rattle.mr_rust_order.specs.Marks.{IsListed}
+use Rattle.mr_rust_order.proofs.Common.{ℕ, ◌⊎◌, IsListed}
 use Rattle.mr_rust_order.proofs.MarkLaws.{rows_of}
 use Rattle.mr_rust_order.proofs.index.collect.Given as goal
 

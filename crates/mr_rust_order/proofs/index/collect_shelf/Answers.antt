@@ -1,4 +1,4 @@
-use Rattle.mr_rust_order.specs.Marks.{IsListed}
+use Rattle.mr_rust_order.proofs.Common.{IsListed}
 use Rattle.mr_rust_order.proofs.MarkLaws.{none_found, shelf_found, shelf_read}
 use Rattle.mr_rust_order.proofs.index.collect_shelf.Goals as goal
 

@@ -1,7 +1,4 @@
-use Rattle.std.proofs.Common.{◌≡◌, true, arith}
-use Rattle.mr_base.specs.declared.access.Access.{Access}
-use Rattle.mr_base.specs.Accesses.{conflicts}
-use Rattle.mr_rust_order.specs.Marks.{IsListed}
+use Rattle.mr_rust_order.proofs.Common.{◌≡◌, true, arith, Access, conflicts, IsListed}
 use Rattle.mr_rust_order.proofs.MarkLaws.{range_all, range_more}
 use Rattle.mr_rust_order.proofs.index.find_rows.Goals as goal
 

@@ -1,7 +1,4 @@
-use Rattle.std.proofs.Common.{◌≡◌, ℕ, ◌<◌, ◌^◌, true}
-use Rattle.mr_base.specs.declared.access.Access.{Access}
-use Rattle.mr_base.specs.Accesses.{conflicts}
-use Rattle.mr_rust_order.specs.Marks.{IsListed, IsOnShelf, has_mark, mark_of}
+use Rattle.mr_rust_order.proofs.Common.{◌≡◌, ℕ, ◌<◌, ◌^◌, true, Access, conflicts, IsListed, IsOnShelf, has_mark, mark_of}
 use Rattle.mr_rust_order.proofs.index.find_rows.Given as goal
 
 abbrev pub invariant-loop-s : goal.invariant-loop-s

@@ -1,6 +1,5 @@
-use Rattle.std.proofs.Common.{◌∙◌}
+use Rattle.mr_rust_order.proofs.Common.{◌∙◌, no_shelf}
 use Rattle.std.proofs.lemmas.List.{get_or_default}
-use Rattle.mr_rust_order.specs.Marks.{no_shelf}
 use Rattle.mr_rust_order.proofs.index.find_shelf.Goals as goal
 
 pub returns-then-same_shelf : goal.returns-then-same_shelf

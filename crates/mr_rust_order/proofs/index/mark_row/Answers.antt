@@ -1,5 +1,4 @@
-use Rattle.std.proofs.Common.{arith}
-use Rattle.mr_rust_order.specs.Marks.{mark_of}
+use Rattle.mr_rust_order.proofs.Common.{arith, mark_of}
 use Rattle.mr_rust_order.proofs.MarkLaws.{marked_new, marks_kept}
 use Rattle.mr_rust_order.proofs.index.mark_row.Goals as goal
 

@@ -1,6 +1,4 @@
-use Rattle.std.proofs.Common.{◌≡◌, ◌<◌, List, length, refl, subst, ◌∙◌, sym, arith}
-use Rattle.mr_rust_order.specs.declared.index.Shelf.{Shelf}
-use Rattle.mr_rust_order.specs.Marks.{AreKept, IsOnShelf, shelf_at}
+use Rattle.mr_rust_order.proofs.Common.{◌≡◌, ◌<◌, List, length, refl, subst, ◌∙◌, sym, arith, Shelf, AreKept, IsOnShelf, shelf_at}
 use Rattle.mr_rust_order.proofs.MarkLaws.{all_kept_here, kept_push, on_new_shelf, on_shelf}
 use Rattle.mr_rust_order.proofs.index.use_shelf.Goals as goal
 

@@ -1,6 +1,4 @@
-use Rattle.std.proofs.Common.{sym, ◌∙◌, arith}
-use Rattle.mr_rust_order.specs.Loads.{counts}
-use Rattle.mr_rust_order.specs.declared.rows.Row.{Row}
+use Rattle.mr_rust_order.proofs.Common.{sym, ◌∙◌, arith, counts, Row}
 use Rattle.mr_rust_order.proofs.TopLaws.{with_not, with_passed, with_past}
 use Rattle.mr_rust_order.proofs.loads.later.Goals as goal
 

@@ -1,6 +1,4 @@
-use Rattle.std.proofs.Common.{arith}
-use Rattle.mr_rust_order.specs.Loads.{counts}
-use Rattle.mr_rust_order.specs.declared.rows.Row.{Row}
+use Rattle.mr_rust_order.proofs.Common.{arith, counts, Row}
 use Rattle.mr_rust_order.proofs.LoadLaws.{passes_is_store}
 use Rattle.mr_rust_order.proofs.TopLaws.{top_begins, top_ends, top_next}
 use Rattle.mr_rust_order.proofs.loads.latest_at.Goals as goal

@@ -1,5 +1,4 @@
-use Rattle.mr_rust_order.specs.Loads.{counts}
-use Rattle.mr_rust_order.specs.Rows.{IsTop}
+use Rattle.mr_rust_order.proofs.Common.{counts, IsTop}
 use Rattle.mr_rust_order.proofs.TopLaws.{HasPassed}
 use Rattle.mr_rust_order.proofs.loads.latest_at.Given as goal
 

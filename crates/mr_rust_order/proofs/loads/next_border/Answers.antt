@@ -1,6 +1,4 @@
-use Rattle.std.proofs.Common.{◌≡◌, ℕ, ◌<◌, length, inl, inr, subst, sym, arith}
-use Rattle.mr_rust_order.specs.Order.{has_byte}
-use Rattle.mr_rust_order.specs.Rows.{row_at}
+use Rattle.mr_rust_order.proofs.Common.{◌≡◌, ℕ, ◌<◌, length, inl, inr, subst, sym, arith, has_byte, row_at}
 use Rattle.mr_rust_order.proofs.TopLaws.{among_all, among_more, among_none}
 use Rattle.mr_rust_order.proofs.loads.next_border.Goals as goal
 

@@ -1,6 +1,4 @@
-use Rattle.std.proofs.Common.{◌≡◌, ℕ, ◌<◌, ◌≤◌, length}
-use Rattle.mr_rust_order.specs.Order.{has_byte}
-use Rattle.mr_rust_order.specs.Rows.{row_at}
+use Rattle.mr_rust_order.proofs.Common.{◌≡◌, ℕ, ◌<◌, ◌≤◌, length, has_byte, row_at}
 use Rattle.mr_rust_order.proofs.TopLaws.{IsAmong}
 use Rattle.mr_rust_order.proofs.loads.next_border.Given as goal
 

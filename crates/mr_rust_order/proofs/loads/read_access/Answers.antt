@@ -1,7 +1,5 @@
-use Rattle.std.proofs.Common.{List, slice_index_or, subst, sym, ◌∙◌}
-use Rattle.std.proofs.lemmas.Result.{on_ok_weaker}
-use Rattle.mr_rust_order.specs.declared.memos.Memo.{Memo}
-use Rattle.mr_rust_order.specs.Loads.{AreMet}
+use Rattle.mr_rust_order.proofs.Common.{List, subst, sym, ◌∙◌, on_ok_weaker, Memo, AreMet}
+use Rattle.std.proofs.Common.{slice_index_or}
 use Rattle.mr_rust_order.proofs.LoadLaws.{access_none, access_read}
 use Rattle.mr_rust_order.proofs.loads.read_access.Goals as goal
 

@@ -1,7 +1,4 @@
-use Rattle.std.proofs.Common.{List, false, ◌∙◌, subst, arith}
-use Rattle.std.proofs.lemmas.List.{take_all}
-use Rattle.mr_base.specs.declared.access.Access.{Access}
-use Rattle.mr_rust_order.specs.Loads.{AreJoined, IsReadOf}
+use Rattle.mr_rust_order.proofs.Common.{List, false, ◌∙◌, subst, arith, take_all, Access, AreJoined, IsReadOf}
 use Rattle.mr_rust_order.proofs.LoadLaws.{reads_more, reads_none}
 use Rattle.mr_rust_order.proofs.loads.read_all.Goals as goal
 

@@ -1,6 +1,4 @@
-use Rattle.std.proofs.Common.{take}
-use Rattle.mr_rust_order.specs.Loads.{AreJoined, IsReadOf}
-use Rattle.mr_rust_order.specs.Memos.{AreMemos}
+use Rattle.mr_rust_order.proofs.Common.{take, AreJoined, IsReadOf, AreMemos}
 use Rattle.mr_rust_order.proofs.loads.read_all.Given as goal
 
 abbrev pub invariant-loop-y : goal.invariant-loop-y

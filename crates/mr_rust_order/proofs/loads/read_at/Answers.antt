@@ -1,8 +1,4 @@
-use Rattle.std.proofs.Common.{arith}
-use Rattle.std.proofs.lemmas.Result.{on_ok_weaker}
-use Rattle.mr_rust_order.specs.Loads.{IsLatestStore, takes}
-use Rattle.mr_rust_order.specs.Rows.{Passes}
-use Rattle.mr_rust_order.specs.declared.rows.Row.{Row}
+use Rattle.mr_rust_order.proofs.Common.{arith, on_ok_weaker, IsLatestStore, takes, Passes, Row}
 use Rattle.mr_rust_order.proofs.LoadLaws.{latest_taken, none_latest, taken_latest}
 use Rattle.mr_rust_order.proofs.TopLaws.{joined_none, joined_same}
 use Rattle.mr_rust_order.proofs.loads.read_at.Goals as goal

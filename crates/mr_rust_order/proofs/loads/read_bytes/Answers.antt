@@ -1,4 +1,4 @@
-use Rattle.std.proofs.Common.{arith}
+use Rattle.mr_rust_order.proofs.Common.{arith}
 use Rattle.mr_rust_order.proofs.AccessLaws.{byte_to}
 use Rattle.mr_rust_order.proofs.LoadLaws.{bytes_all, bytes_more, bytes_none, found_at}
 use Rattle.mr_rust_order.proofs.loads.read_bytes.Goals as goal

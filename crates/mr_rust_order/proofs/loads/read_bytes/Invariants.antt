@@ -1,5 +1,4 @@
-use Rattle.std.proofs.Common.{◌+◌, ◌-◌, ◌≤◌}
-use Rattle.mr_rust_order.specs.Loads.{AreJoined}
+use Rattle.mr_rust_order.proofs.Common.{◌+◌, ◌-◌, ◌≤◌, AreJoined}
 use Rattle.mr_rust_order.proofs.LoadLaws.{IsLatestBelow}
 use Rattle.mr_rust_order.proofs.loads.read_bytes.Given as goal
 

@@ -1,7 +1,4 @@
-use Rattle.std.proofs.Common.{sym, ◌∙◌, arith}
-use Rattle.std.proofs.lemmas.Result.{on_ok_weaker}
-use Rattle.mr_rust_order.specs.Loads.{takes}
-use Rattle.mr_rust_order.specs.declared.rows.Row.{Row}
+use Rattle.mr_rust_order.proofs.Common.{sym, ◌∙◌, arith, on_ok_weaker, takes, Row}
 use Rattle.mr_rust_order.proofs.TopLaws.{joined_not, joined_passed, joined_past}
 use Rattle.mr_rust_order.proofs.loads.take.Goals as goal
 

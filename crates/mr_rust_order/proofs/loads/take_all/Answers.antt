@@ -1,6 +1,4 @@
-use Rattle.std.proofs.Common.{arith}
-use Rattle.mr_rust_order.specs.Loads.{takes}
-use Rattle.mr_rust_order.specs.declared.rows.Row.{Row}
+use Rattle.mr_rust_order.proofs.Common.{arith, takes, Row}
 use Rattle.mr_rust_order.proofs.LoadLaws.{taken_is_store}
 use Rattle.mr_rust_order.proofs.TopLaws.{joined_begins, joined_ends, joined_next}
 use Rattle.mr_rust_order.proofs.loads.take_all.Goals as goal

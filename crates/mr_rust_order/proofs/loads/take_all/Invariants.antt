@@ -1,4 +1,4 @@
-use Rattle.mr_rust_order.specs.Loads.{AreJoined, takes}
+use Rattle.mr_rust_order.proofs.Common.{AreJoined, takes}
 use Rattle.mr_rust_order.proofs.TopLaws.{HasPassed}
 use Rattle.mr_rust_order.proofs.loads.take_all.Given as goal
 

@@ -1,5 +1,4 @@
-use Rattle.std.proofs.Common.{◌≡◌}
-use Rattle.mr_rust_order.specs.Memos.{IsMemo}
+use Rattle.mr_rust_order.proofs.Common.{◌≡◌, IsMemo}
 use Rattle.mr_rust_order.proofs.memos.catch_up.Given as goal
 
 -- the memo counts the rows before this one

@@ -1,9 +1,4 @@
-use Rattle.std.proofs.Common.{sym, ap, ◌∙◌, subst, arith}
-use native.Mathlib.Decide.{ℕ_discrete}
-use Rattle.mr_base.specs.Accesses.{conflicts}
-use Rattle.mr_rust_order.specs.declared.rows.Row.{Row}
-use Rattle.mr_rust_order.specs.Marks.{IsListed}
-use Rattle.mr_rust_order.specs.Rows.{row_at}
+use Rattle.mr_rust_order.proofs.Common.{sym, ap, ◌∙◌, subst, arith, ℕ_discrete, conflicts, Row, IsListed, row_at}
 use Rattle.mr_rust_order.proofs.memos.count_one.Goals as goal
 
 pub returns-clause-memo : goal.returns-clause-memo

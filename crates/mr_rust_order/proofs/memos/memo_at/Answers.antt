@@ -1,4 +1,4 @@
-use Rattle.std.proofs.lemmas.List.{get_or_read}
+use Rattle.mr_rust_order.proofs.Common.{get_or_read}
 use Rattle.mr_rust_order.proofs.memos.memo_at.Goals as goal
 
 pub returns : goal.returns

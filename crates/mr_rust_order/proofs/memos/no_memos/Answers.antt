@@ -1,4 +1,4 @@
-use Rattle.std.proofs.Common.{refl, arith}
+use Rattle.mr_rust_order.proofs.Common.{refl, arith}
 use Rattle.mr_rust_order.proofs.MemoLaws.{fresh_memos, fresh_more, fresh_none}
 use Rattle.mr_rust_order.proofs.memos.no_memos.Goals as goal
 

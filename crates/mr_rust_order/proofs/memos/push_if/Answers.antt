@@ -1,4 +1,4 @@
-use Rattle.std.proofs.Common.{[], ◌∷◌}
+use Rattle.mr_rust_order.proofs.Common.{[], ◌∷◌}
 use Rattle.mr_rust_order.proofs.MarkLaws.{listed_kept, listed_push}
 use Rattle.mr_rust_order.proofs.memos.push_if.Goals as goal
 

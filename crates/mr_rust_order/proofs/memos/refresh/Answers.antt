@@ -1,5 +1,4 @@
-use Rattle.std.proofs.Common.{◌∙◌, arith}
-use Rattle.mr_rust_order.specs.Rows.{row_at}
+use Rattle.mr_rust_order.proofs.Common.{◌∙◌, arith, row_at}
 use Rattle.mr_rust_order.proofs.MemoLaws.{memo_serves}
 use Rattle.mr_rust_order.proofs.memos.refresh.Goals as goal
 

@@ -1,8 +1,4 @@
-use Rattle.std.proofs.Common.{ℕ, ◌≤◌, length, set, subst, sym, refl, arith}
-use Rattle.std.proofs.lemmas.List.{get_or_read, get_or-set_same}
-use Rattle.mr_rust_order.specs.declared.memos.Memo.{Memo}
-use Rattle.mr_rust_order.specs.Loads.{AreMet}
-use Rattle.mr_rust_order.specs.Memos.{IsMemo}
+use Rattle.mr_rust_order.proofs.Common.{ℕ, ◌≤◌, length, set, subst, sym, refl, arith, get_or_read, get_or-set_same, Memo, AreMet, IsMemo}
 use Rattle.mr_rust_order.proofs.MemoLaws.{memo_set}
 use Rattle.mr_rust_order.proofs.memos.rows_met.Goals as goal
 

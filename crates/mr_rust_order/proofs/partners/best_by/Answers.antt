@@ -1,5 +1,4 @@
-use Rattle.std.proofs.Common.{arith}
-use Rattle.mr_rust_order.specs.Partners.{is_partner}
+use Rattle.mr_rust_order.proofs.Common.{arith, is_partner}
 use Rattle.mr_rust_order.proofs.PartnerLaws.{passes_conflict}
 use Rattle.mr_rust_order.proofs.TopLaws.{top_begins, top_ends, top_next}
 use Rattle.mr_rust_order.proofs.partners.best_by.Goals as goal

@@ -1,5 +1,4 @@
-use Rattle.mr_rust_order.specs.Partners.{is_partner}
-use Rattle.mr_rust_order.specs.Rows.{IsTop}
+use Rattle.mr_rust_order.proofs.Common.{is_partner, IsTop}
 use Rattle.mr_rust_order.proofs.TopLaws.{HasPassed}
 use Rattle.mr_rust_order.proofs.partners.best_by.Given as goal
 

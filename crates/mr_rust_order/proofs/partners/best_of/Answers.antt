@@ -1,10 +1,4 @@
-use Rattle.std.proofs.Common.{List, ℕ, false, get_or, ◌∙◌, sym, subst, arith}
-use Rattle.std.proofs.lemmas.List.{take_all}
-use Rattle.mr_base.specs.declared.access.Access.{Access}
-use Rattle.mr_rust_order.specs.declared.memos.Memo.{Memo}
-use Rattle.mr_rust_order.specs.Loads.{AreMet}
-use Rattle.mr_rust_order.specs.Partners.{IsPartnerBy, is_partner}
-use Rattle.mr_rust_order.specs.Rows.{IsTop, Passes}
+use Rattle.mr_rust_order.proofs.Common.{List, ℕ, false, get_or, ◌∙◌, sym, subst, arith, take_all, Access, Memo, AreMet, IsPartnerBy, is_partner, IsTop, Passes}
 use Rattle.mr_rust_order.proofs.PartnerLaws.{partners_more, partners_none}
 use Rattle.mr_rust_order.proofs.partners.best_of.Goals as goal
 

@@ -1,7 +1,4 @@
-use Rattle.std.proofs.Common.{take}
-use Rattle.mr_rust_order.specs.Memos.{AreMemos}
-use Rattle.mr_rust_order.specs.Partners.{IsPartnerBy}
-use Rattle.mr_rust_order.specs.Rows.{IsTop}
+use Rattle.mr_rust_order.proofs.Common.{take, AreMemos, IsPartnerBy, IsTop}
 use Rattle.mr_rust_order.proofs.partners.best_of.Given as goal
 
 abbrev pub invariant-loop-y : goal.invariant-loop-y

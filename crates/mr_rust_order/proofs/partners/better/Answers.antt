@@ -1,5 +1,4 @@
-use Rattle.std.proofs.Common.{sym, ◌∙◌, arith}
-use Rattle.mr_rust_order.specs.Partners.{is_partner}
+use Rattle.mr_rust_order.proofs.Common.{sym, ◌∙◌, arith, is_partner}
 use Rattle.mr_rust_order.proofs.TopLaws.{with_not, with_passed, with_past}
 use Rattle.mr_rust_order.proofs.partners.better.Goals as goal
 

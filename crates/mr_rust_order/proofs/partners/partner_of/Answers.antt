@@ -1,6 +1,4 @@
-use Rattle.std.proofs.Common.{ℕ, ◌-◌, subst, arith}
-use Rattle.mr_rust_order.specs.Partners.{IsPartnerBy}
-use Rattle.mr_rust_order.specs.Rows.{IsTop}
+use Rattle.mr_rust_order.proofs.Common.{ℕ, ◌-◌, subst, arith, IsPartnerBy, IsTop}
 use Rattle.mr_rust_order.proofs.PartnerLaws.{top_is_greatest, top_is_none}
 use Rattle.mr_rust_order.proofs.partners.partner_of.Goals as goal
 

@@ -1,8 +1,4 @@
-use Rattle.std.proofs.Common.{List, [], ◌∷◌, refl, sym, ap, ◌∙◌, subst, arith}
-use Rattle.mr_base.specs.declared.access.Access.{Access}
-use Rattle.mr_rust_order.specs.declared.rows.Row.{Row}
-use Rattle.mr_rust_order.specs.Marks.{AreMarked, IsPlaceFor}
-use Rattle.mr_rust_order.specs.Rows.{IsPut}
+use Rattle.mr_rust_order.proofs.Common.{List, [], ◌∷◌, refl, sym, ap, ◌∙◌, subst, arith, Access, Row, AreMarked, IsPlaceFor, IsPut}
 use Rattle.mr_rust_order.proofs.RowLaws.{place_range, put_push, put_set}
 use Rattle.mr_rust_order.proofs.rows.note.Goals as goal
 

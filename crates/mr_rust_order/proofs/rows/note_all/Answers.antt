@@ -1,7 +1,4 @@
-use Rattle.std.proofs.Common.{List, ℕ, [], ◌∷◌, false, get_or, take, ◌∙◌, sym, subst, arith}
-use Rattle.std.proofs.lemmas.List.{take_all, take_more}
-use Rattle.mr_base.specs.declared.access.Access.{Access}
-use Rattle.mr_rust_order.specs.Rows.{AreNoted}
+use Rattle.mr_rust_order.proofs.Common.{List, ℕ, [], ◌∷◌, false, get_or, take, ◌∙◌, sym, subst, arith, take_all, take_more, Access, AreNoted}
 use Rattle.mr_rust_order.proofs.RowLaws.{noted_more, noted_none}
 use Rattle.mr_rust_order.proofs.rows.note_all.Goals as goal
 

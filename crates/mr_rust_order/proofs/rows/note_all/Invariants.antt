@@ -1,6 +1,4 @@
-use Rattle.std.proofs.Common.{take}
-use Rattle.mr_rust_order.specs.Marks.{AreMarked}
-use Rattle.mr_rust_order.specs.Rows.{AreNoted}
+use Rattle.mr_rust_order.proofs.Common.{take, AreMarked, AreNoted}
 use Rattle.mr_rust_order.proofs.rows.note_all.Given as goal
 
 abbrev pub invariant-loop-y : goal.invariant-loop-y

@@ -1,4 +1,4 @@
-use Rattle.std.proofs.Common.{refl, arith}
+use Rattle.mr_rust_order.proofs.Common.{refl, arith}
 use Rattle.mr_rust_order.proofs.rows.renew.Goals as goal
 
 pub returns-clause-put : goal.returns-clause-put

@@ -1,5 +1,4 @@
-use Rattle.std.proofs.Common.{◌≡◌, ℕ, arith, length, subst}
-use Rattle.mr_rust_order.specs.Order.{AreRacesBelow}
+use Rattle.mr_rust_order.proofs.Common.{◌≡◌, ℕ, arith, length, subst, AreRacesBelow}
 use Rattle.mr_rust_order.proofs.StepLaws.{races_more, races_none, races_same}
 use Rattle.mr_rust_order.proofs.TestLaws.{races_only}
 use Rattle.mr_rust_order.proofs.runs.races.Goals as goal

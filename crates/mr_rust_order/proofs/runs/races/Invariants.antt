@@ -1,5 +1,4 @@
-use Rattle.mr_rust_order.specs.Order.{AreRacesBelow}
-use Rattle.mr_rust_order.specs.Tracked.{Tracks}
+use Rattle.mr_rust_order.proofs.Common.{AreRacesBelow, Tracks}
 use Rattle.mr_rust_order.proofs.runs.races.Given as goal
 
 abbrev pub invariant-loop-j : goal.invariant-loop-j

@@ -1,5 +1,4 @@
-use Rattle.std.proofs.Common.{◌-◌, ◌^◌, refl, arith}
-use Rattle.mr_rust_order.specs.Marks.{mark_of}
+use Rattle.mr_rust_order.proofs.Common.{◌-◌, ◌^◌, refl, arith, mark_of}
 use Rattle.mr_rust_order.proofs.MarkLaws.{low_mark, low_read}
 use Rattle.mr_rust_order.proofs.taking.first_row.Goals as goal
 

@@ -1,6 +1,4 @@
-use Rattle.std.proofs.Common.{List, inl, inr, refl, subst, sym}
-use Rattle.mr_rust_order.specs.declared.index.Shelf.{Shelf}
-use Rattle.mr_rust_order.specs.Marks.{AreKept}
+use Rattle.mr_rust_order.proofs.Common.{List, inl, inr, refl, subst, sym, Shelf, AreKept}
 use Rattle.mr_rust_order.proofs.MarkLaws.{all_kept}
 use Rattle.mr_rust_order.proofs.taking.place_for.Goals as goal
 

@@ -1,5 +1,4 @@
-use Rattle.std.proofs.Common.{refl}
-use Rattle.mr_sched.specs.Versions.{text_in}
+use Rattle.mr_sched.proofs.Common.{refl, text_in}
 use Rattle.mr_sched.proofs.TextLaws.{schedule_again}
 use Rattle.mr_sched.proofs.laws.reads_back.Goals as goal
 

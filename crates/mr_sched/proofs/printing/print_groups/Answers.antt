@@ -1,4 +1,4 @@
-use Rattle.std.proofs.Common.{◌∙◌}
+use Rattle.mr_sched.proofs.Common.{◌∙◌}
 use Rattle.mr_sched.proofs.Pieces.{on_err_since}
 use Rattle.mr_sched.proofs.VersionLaws.{more_then}
 use Rattle.mr_sched.proofs.printing.print_groups.Goals as goal

@@ -1,6 +1,4 @@
-use Rattle.std.proofs.Common.{◌≡◌, ◌++◌, ◌≤◌, drop}
-use Rattle.mr_sched.specs.Spelling.{Extends}
-use Rattle.mr_sched.specs.Versions.{groups_behind, groups_of, groups_text}
+use Rattle.mr_sched.proofs.Common.{◌≡◌, ◌++◌, ◌≤◌, drop, Extends, groups_behind, groups_of, groups_text}
 use Rattle.mr_sched.proofs.printing.print_groups.Given as goal
 
 -- what was written, and the lines of the entries from this one on, are all lines

@@ -1,4 +1,4 @@
-use Rattle.std.proofs.Common.{ap, ◌∙◌, ◌++◌, List, ℕ}
+use Rattle.mr_sched.proofs.Common.{ap, ◌∙◌, ◌++◌, List, ℕ}
 use Rattle.std.proofs.lemmas.Result.{on_ok_weaker}
 use Rattle.mr_sched.proofs.VersionLaws.{text_by_pieces}
 use Rattle.mr_sched.proofs.printing.print_lines.Goals as goal

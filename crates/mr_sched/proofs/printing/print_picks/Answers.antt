@@ -1,5 +1,4 @@
-use Rattle.std.proofs.Common.{take, ◌∙◌}
-use Rattle.mr_sched.specs.Spelling.{spaced}
+use Rattle.mr_sched.proofs.Common.{take, ◌∙◌, spaced}
 use Rattle.mr_sched.proofs.Pieces.{on_err_since, extended_twice}
 use Rattle.mr_sched.proofs.printing.print_picks.Goals as goal
 

@@ -1,5 +1,4 @@
-use Rattle.std.proofs.Common.{◌≡◌, ◌++◌, take}
-use Rattle.mr_sched.specs.Spelling.{spaced}
+use Rattle.mr_sched.proofs.Common.{◌≡◌, ◌++◌, take, spaced}
 use Rattle.mr_sched.proofs.printing.print_picks.Given as goal
 
 abbrev pub invariant-loop-pick : goal.invariant-loop-pick

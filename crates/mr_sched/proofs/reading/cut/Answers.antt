@@ -1,4 +1,5 @@
-use Rattle.std.proofs.Common.{ℕ, ◌∙◌, sym, length-drop, arith}
+use Rattle.mr_sched.proofs.Common.{ℕ, ◌∙◌, sym, arith}
+use Rattle.std.proofs.Common.{length-drop}
 use Rattle.std.proofs.lemmas.List.{take_rest}
 use Rattle.mr_sched.proofs.Parts.{parts_at-position_none, parts_at-position_some}
 use Rattle.mr_sched.proofs.reading.cut.Goals as goal

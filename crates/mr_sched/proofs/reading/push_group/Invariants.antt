@@ -1,5 +1,4 @@
-use Rattle.std.proofs.Common.{◌≡◌, ◌++◌, ◌≤◌}
-use Rattle.std.specs.Prelude.{replicate}
+use Rattle.mr_sched.proofs.Common.{◌≡◌, ◌++◌, ◌≤◌, replicate}
 use Rattle.mr_sched.proofs.reading.push_group.Given as goal
 
 abbrev pub invariant-loop-left : goal.invariant-loop-left

@@ -1,4 +1,4 @@
-use Rattle.std.proofs.Common.{◌≡◌, ◌^◌, take, arith}
+use Rattle.mr_sched.proofs.Common.{◌≡◌, ◌^◌, take, arith}
 use Rattle.std.proofs.lemmas.List.{take_all}
 use Rattle.mr_sched.proofs.Numerals.{with_digit, without_digit}
 use Rattle.mr_sched.proofs.reading.read_digits.Goals as goal

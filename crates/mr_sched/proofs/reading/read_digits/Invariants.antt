@@ -1,5 +1,4 @@
-use Rattle.std.proofs.Common.{◌≡◌, ◌<◌, ◌^◌, take}
-use Rattle.std.specs.Str.Parse.{AllDigits, digits_value}
+use Rattle.mr_sched.proofs.Common.{◌≡◌, ◌<◌, ◌^◌, take, AllDigits, digits_value}
 use Rattle.mr_sched.proofs.reading.read_digits.Given as goal
 
 abbrev pub invariant-loop-digit : goal.invariant-loop-digit

@@ -1,6 +1,5 @@
-use Rattle.std.proofs.Common.{length, sym, arith}
+use Rattle.mr_sched.proofs.Common.{length, sym, arith, eqb-true, eqb-false}
 use Rattle.std.proofs.lemmas.Result.{err_from_is_err_and}
-use Rattle.std.proofs.lemmas.Bool.{eqb-true, eqb-false}
 use Rattle.mr_sched.proofs.Loops.{line_goes_on, line_stops, entries_unended, entries_end}
 use Rattle.mr_sched.proofs.reading.read_entries.Goals as goal
 

@@ -1,5 +1,4 @@
-use Rattle.std.proofs.Common.{◌≡◌, ◌+◌, ◌^◌, ◌≤◌, [], length}
-use Rattle.mr_sched.specs.Reading.{entries_from, parts_at}
+use Rattle.mr_sched.proofs.Common.{◌≡◌, ◌+◌, ◌^◌, ◌≤◌, [], length, entries_from, parts_at}
 use Rattle.mr_sched.proofs.reading.read_entries.Given as goal
 
 abbrev pub invariant-loop-rest : goal.invariant-loop-rest

@@ -1,4 +1,4 @@
-use Rattle.std.proofs.Common.{◌+◌, ◌^◌, ◌≤◌, length, arith}
+use Rattle.mr_sched.proofs.Common.{◌+◌, ◌^◌, ◌≤◌, length, arith}
 use Rattle.mr_sched.proofs.GroupLaws.{group_bare, group_some}
 use Rattle.mr_sched.proofs.Loops.{line_fits, pushed_more}
 use Rattle.mr_sched.proofs.reading.read_line.Goals as goal

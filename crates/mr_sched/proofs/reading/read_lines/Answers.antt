@@ -1,5 +1,4 @@
-use Rattle.std.proofs.Common.{sym, ◌∙◌}
-use Rattle.mr_sched.specs.Reading.{parts_at}
+use Rattle.mr_sched.proofs.Common.{sym, ◌∙◌, parts_at}
 use Rattle.mr_sched.proofs.FirstLines.{lines_schedule-line}
 use Rattle.mr_sched.proofs.Parts.{parts_at-first}
 use Rattle.mr_sched.proofs.reading.read_lines.Goals as goal

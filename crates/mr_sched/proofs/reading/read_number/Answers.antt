@@ -1,5 +1,4 @@
-use Rattle.std.proofs.Common.{◌≡◌, ◌^◌, length, get_or, refl, sym, arith, inl, inr}
-use Rattle.std.proofs.lemmas.Bool.{cases_lt, eqb-true, eqb-false, false≢true}
+use Rattle.mr_sched.proofs.Common.{◌≡◌, ◌^◌, length, get_or, refl, sym, arith, inl, inr, cases_lt, eqb-true, eqb-false, false≢true}
 use Rattle.mr_sched.proofs.Numerals.{number_of-other, number_of-digits}
 use Rattle.mr_sched.proofs.reading.read_number.Goals as goal
 use Rattle.mr_sched.proofs.reading.read_number.Goals.{then-is_empty-via-then-is_empty, then-is_empty-via-else-is_empty+then-has_leading_zero}

@@ -1,5 +1,4 @@
-use Rattle.std.proofs.Common.{◌≡◌, None, option_copied, ap, sym, ◌∙◌, refl}
-use Rattle.mr_sched.specs.Reading.{parts_after, picks_of}
+use Rattle.mr_sched.proofs.Common.{◌≡◌, None, option_copied, ap, sym, ◌∙◌, refl, parts_after, picks_of}
 use Rattle.mr_sched.proofs.Loops.{picks_go_on, picks_stop, picks_end}
 use Rattle.mr_sched.proofs.reading.read_picks.Goals as goal
 

@@ -1,5 +1,4 @@
-use Rattle.std.proofs.Common.{◌≡◌, option_copied}
-use Rattle.mr_sched.specs.Reading.{parts_after, picks_of}
+use Rattle.mr_sched.proofs.Common.{◌≡◌, option_copied, parts_after, picks_of}
 use Rattle.mr_sched.proofs.Loops.{size_of, picks_with}
 use Rattle.mr_sched.proofs.reading.read_picks.Given as goal
 

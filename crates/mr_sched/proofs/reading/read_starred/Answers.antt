@@ -1,4 +1,4 @@
-use Rattle.std.proofs.Common.{refl}
+use Rattle.mr_sched.proofs.Common.{refl}
 use Rattle.mr_sched.proofs.Loops.{starred_twice}
 use Rattle.mr_sched.proofs.reading.read_starred.Goals as goal
 

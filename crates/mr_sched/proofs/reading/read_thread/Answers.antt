@@ -1,4 +1,4 @@
-use Rattle.std.proofs.Common.{◌^◌, refl, ◌∙◌}
+use Rattle.mr_sched.proofs.Common.{◌^◌, refl, ◌∙◌}
 use Rattle.mr_sched.proofs.Numerals.{number_of-narrow, result_ok-below}
 use Rattle.mr_sched.proofs.reading.read_thread.Goals as goal
 

@@ -1,5 +1,4 @@
-use Rattle.std.proofs.Common.{◌≡◌, ◌≤◌}
-use Rattle.mr_sched.specs.Versions.{line_in}
+use Rattle.mr_sched.proofs.Common.{◌≡◌, ◌≤◌, line_in}
 use Rattle.mr_sched.proofs.version.line_of.Given as goal
 
 -- the line of the entry at this place

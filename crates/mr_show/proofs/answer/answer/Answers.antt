@@ -1,4 +1,4 @@
-use Rattle.std.proofs.Common.{[]}
+use Rattle.mr_show.proofs.Common.{[]}
 use Rattle.mr_show.proofs.answer.answer.Goals as goal
 
 pub returns-in-Shown-clause-texts : goal.returns-in-Shown-clause-texts

@@ -1,7 +1,5 @@
-use Rattle.std.proofs.Common.{Option, subst}
-use Rattle.mr_input.specs.Answer.{Tells}
+use Rattle.mr_show.proofs.Common.{Option, subst, Tells, why_answer}
 use Rattle.mr_why.specs.Why.{Entry}
-use Rattle.mr_show.specs.Answer.{why_answer}
 use Rattle.mr_show.proofs.answer.explained.Goals as goal
 
 pub returns-in-Some-clause-answer : goal.returns-in-Some-clause-answer

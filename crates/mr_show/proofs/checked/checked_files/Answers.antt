@@ -1,6 +1,4 @@
-use Rattle.std.proofs.Common.{◌∙◌, ◌^◌, [], ap, inl, refl}
-use Rattle.std.specs.Prelude.{Err, Some}
-use Rattle.mr_input.proofs.InputLaws.{longer, rose_in_all}
+use Rattle.mr_show.proofs.Common.{◌∙◌, ◌^◌, [], ap, inl, refl, Err, Some, longer, rose_in_all}
 use Rattle.mr_show.proofs.CheckedLaws.{both_read, first_long}
 use Rattle.mr_show.proofs.checked.checked_files.Goals as goal
 

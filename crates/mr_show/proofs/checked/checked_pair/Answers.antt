@@ -1,4 +1,4 @@
-use Rattle.std.proofs.Common.{inr}
+use Rattle.mr_show.proofs.Common.{inr}
 use Rattle.mr_show.proofs.checked.checked_pair.Goals as goal
 
 pub returns-clause-status : goal.returns-clause-status

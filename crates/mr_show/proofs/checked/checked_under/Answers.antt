@@ -1,6 +1,4 @@
-use Rattle.std.proofs.Common.{◌^◌, ap, inl, refl}
-use Rattle.std.specs.Prelude.{Err, Some}
-use Rattle.mr_input.proofs.InputLaws.{longer}
+use Rattle.mr_show.proofs.Common.{◌^◌, ap, inl, refl, Err, Some, longer}
 use Rattle.mr_show.proofs.CheckedLaws.{schedule_read, second_long}
 use Rattle.mr_show.proofs.checked.checked_under.Goals as goal
 

@@ -1,5 +1,4 @@
-use Rattle.std.proofs.Common.{◌∙◌, ◌++◌, ap, arith, length, sym, List, ℕ}
-use Rattle.std.specs.Prelude.{Some}
+use Rattle.mr_show.proofs.Common.{◌∙◌, ◌++◌, ap, arith, length, sym, List, ℕ, Some}
 use Rattle.mr_show.proofs.checked.read_whole.Goals as goal
 
 pub returns-then-len-max-clause-long : goal.returns-then-len-max-clause-long

@@ -1,7 +1,4 @@
-use Rattle.std.proofs.Common.{◌∙◌, ◌++◌, List, ap, inl, refl, subst, sym, ℕ}
-use Rattle.std.specs.Prelude.{Err, Option, Some}
-use Rattle.mr_input.specs.Answer.{Tells, told}
-use Rattle.mr_show.specs.Filled.{order_answer, order_in}
+use Rattle.mr_show.proofs.Common.{◌∙◌, ◌++◌, List, ap, inl, refl, subst, sym, ℕ, Err, Option, Some, Tells, told, order_answer, order_in}
 use Rattle.mr_show.proofs.FillLaws.{long_told, some_long_order}
 use Rattle.mr_show.proofs.filled.filled_file.Goals as goal
 

@@ -1,8 +1,6 @@
-use Rattle.std.proofs.Common.{◌≡◌, ℕ, ◌-◌, ◌∙◌, ap, arith, sym}
-use Rattle.std.specs.List.{find, range_with_len}
+use Rattle.mr_show.proofs.Common.{◌≡◌, ℕ, ◌-◌, ◌∙◌, ap, arith, sym, find, range_with_len, entry_of, is_name_of}
 use Rattle.mr_next.proofs.Finding.{find_behind}
-use Rattle.mr_why.specs.Why.{entry_of}
-use Rattle.mr_show.specs.Form.{code_named, is_name_of}
+use Rattle.mr_show.specs.Form.{code_named}
 use Rattle.mr_show.proofs.NameLaws.{find_here}
 use Rattle.mr_show.proofs.form.code_named.Goals as goal
 

@@ -1,7 +1,4 @@
-use Rattle.std.specs.Prelude.{◌≡◌, ◌-◌}
-use Rattle.std.specs.List.{find, range_with_len}
-use Rattle.mr_why.specs.Why.{entry_of}
-use Rattle.mr_show.specs.Form.{is_name_of}
+use Rattle.mr_show.proofs.Common.{◌≡◌, ◌-◌, find, range_with_len, entry_of, is_name_of}
 use Rattle.mr_show.proofs.form.code_named.Given as goal
 
 -- none before this one has the name

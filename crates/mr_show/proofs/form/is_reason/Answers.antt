@@ -1,6 +1,4 @@
-use Rattle.std.proofs.Common.{ℕ, arith, ◌∙◌, sym}
-use Rattle.mr_why.specs.Why.{entry_of}
-use Rattle.mr_show.specs.Form.{is_name_of}
+use Rattle.mr_show.proofs.Common.{ℕ, arith, ◌∙◌, sym, entry_of, is_name_of}
 use Rattle.mr_show.proofs.NameLaws.{none_passes, one_more, one_passes}
 use Rattle.mr_show.proofs.form.is_reason.Goals as goal
 

@@ -1,5 +1,4 @@
-use Rattle.mr_why.specs.Why.{entry_of}
-use Rattle.mr_show.specs.Form.{is_name_of}
+use Rattle.mr_show.proofs.Common.{entry_of, is_name_of}
 use Rattle.mr_show.proofs.NameLaws.{NonePasses}
 use Rattle.mr_show.proofs.form.is_reason.Given as goal
 

@@ -1,4 +1,4 @@
-use Rattle.std.proofs.Common.{arith, map, sym}
+use Rattle.mr_show.proofs.Common.{arith, map, sym}
 use Rattle.std.proofs.lemmas.List.{length-map}
 use Rattle.std.specs.Prelude.{string_bytes}
 use Rattle.mr_show.proofs.FormLaws.{long_none}

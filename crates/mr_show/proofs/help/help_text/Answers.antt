@@ -1,4 +1,4 @@
-use Rattle.std.proofs.Common.{refl}
+use Rattle.mr_show.proofs.Common.{refl}
 use Rattle.mr_show.proofs.help.help_text.Goals as goal
 
 pub returns-in-Everything : goal.returns-in-Everything

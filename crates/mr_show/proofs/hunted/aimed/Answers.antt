@@ -1,10 +1,4 @@
-use Rattle.std.proofs.Common.{◌≡◌, ℕ, ◌∙◌, ap}
-use Rattle.std.proofs.lemmas.Result.{IfOk-weaker}
-use Rattle.std.specs.Prelude.{Option}
-use Rattle.mr_lex.specs.Reading.{lexed}
-use Rattle.mr_hunt.specs.Aims.{aim_of, first_met}
-use Rattle.mr_show.specs.Gathered.{laid_in}
-use Rattle.mr_show.specs.Hunted.{found_answer, most_in}
+use Rattle.mr_show.proofs.Common.{◌≡◌, ℕ, ◌∙◌, ap, IfOk-weaker, Option, lexed, aim_of, first_met, laid_in, found_answer, most_in}
 use Rattle.mr_show.proofs.hunted.aimed.Goals as goal
 
 pub returns-clause-answer : goal.returns-clause-answer

@@ -1,5 +1,4 @@
-use Rattle.std.proofs.lemmas.Result.{IfOk-weaker}
-use Rattle.mr_hunt.specs.Aims.{aim_of}
+use Rattle.mr_show.proofs.Common.{IfOk-weaker, aim_of}
 use Rattle.mr_show.proofs.hunted.found_in.Goals as goal
 
 pub returns-in-None-clause-answer : goal.returns-in-None-clause-answer

@@ -1,6 +1,4 @@
-use Rattle.std.proofs.Common.{refl}
-use Rattle.std.specs.Prelude.{Some}
-use Rattle.mr_show.specs.Seek.{seek_of}
+use Rattle.mr_show.proofs.Common.{refl, Some, seek_of}
 use Rattle.mr_show.proofs.HuntLaws.{hunt_read, hunt_unread}
 use Rattle.mr_show.proofs.hunted.hunted_file.Goals as goal
 

@@ -1,7 +1,4 @@
-use Rattle.std.proofs.Common.{ap, sym, ◌∙◌}
-use Rattle.std.specs.Prelude.{Ok}
-use Rattle.mr_show.specs.Seek.{seek_of}
-use Rattle.mr_show.specs.Hunted.{hunt_answer}
+use Rattle.mr_show.proofs.Common.{ap, sym, ◌∙◌, Ok, seek_of, hunt_answer}
 use Rattle.mr_show.proofs.HuntLaws.{hunt_checked}
 use Rattle.mr_show.proofs.hunted.hunted_program.Goals as goal
 

@@ -1,4 +1,4 @@
-use Rattle.mr_show.specs.Seek.{seek_of}
+use Rattle.mr_show.proofs.Common.{seek_of}
 use Rattle.mr_show.proofs.HuntLaws.{hunt_parsed, hunt_refused}
 use Rattle.mr_show.proofs.ShownLaws.{was_parsed}
 use Rattle.mr_show.proofs.hunted.hunted_text.Goals as goal

@@ -1,10 +1,5 @@
-use Rattle.std.proofs.Common.{◌≡◌, ℕ, List, ◌∙◌, ap}
-use Rattle.mr_lex.specs.Reading.{lexed}
-use Rattle.mr_input.specs.Answer.{Answer}
-use Rattle.mr_hunt.specs.Aims.{aim_of}
+use Rattle.mr_show.proofs.Common.{◌≡◌, ℕ, List, ◌∙◌, ap, lexed, Answer, aim_of, laid_in, most_in}
 use Rattle.mr_hunt.specs.Texts.{found_text}
-use Rattle.mr_show.specs.Gathered.{laid_in}
-use Rattle.mr_show.specs.Hunted.{most_in}
 use Rattle.mr_show.proofs.hunted.one_found.Goals as goal
 
 pub returns-clause-answer : goal.returns-clause-answer

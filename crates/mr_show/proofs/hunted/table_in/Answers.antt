@@ -1,12 +1,8 @@
-use Rattle.std.proofs.Common.{◌≡◌, ℕ, ◌+◌, ◌-◌, List, [], ◌∙◌, ap}
-use Rattle.mr_lex.specs.Reading.{lexed}
-use Rattle.mr_input.specs.Answer.{Answer}
+use Rattle.mr_show.proofs.Common.{◌≡◌, ℕ, ◌+◌, ◌-◌, List, [], ◌∙◌, ap, lexed, Answer, laid_in, most_in}
 use Rattle.mr_hunt.specs.declared.counting.Row.{Row}
 use Rattle.mr_hunt.specs.Ends.{ends_of}
 use Rattle.mr_hunt.specs.Table.{numbers, table_of}
 use Rattle.mr_hunt.specs.Texts.{seen_with, table_text}
-use Rattle.mr_show.specs.Gathered.{laid_in}
-use Rattle.mr_show.specs.Hunted.{most_in}
 use Rattle.mr_show.proofs.hunted.table_in.Goals as goal
 
 pub returns-clause-answer : goal.returns-clause-answer

@@ -1,17 +1,11 @@
-use Rattle.std.proofs.Common.{◌≡◌, ◌<◌, ◌^◌, ◌∙◌, List, ap, ap₂, arith, length, subst, sym}
-use Rattle.std.specs.Prelude.{IfOk, Option}
+use Rattle.mr_show.proofs.Common.{◌≡◌, ◌<◌, ◌^◌, ◌∙◌, List, ap, ap₂, arith, length, subst, sym, IfOk, Option, Footprint, Written, Seen, part_answer, part_values, gathered}
 use Rattle.mr_clocks.specs.Tracked.{Tracks}
-use Rattle.mr_event.specs.Footprint.{Footprint}
 use Rattle.mr_event.specs.Predicted.{predicted}
 use Rattle.mr_step.specs.PlanRuns.{Config}
 use Rattle.mr_start.specs.Steps.{Own}
-use Rattle.mr_input.specs.declared.written.Written.{Written}
-use Rattle.mr_input.specs.Answer.{Answer, seen as written_as}
 use Rattle.mr_listing.specs.declared.held.StepValues.{StepValues}
-use Rattle.mr_listing.specs.Seen.{Seen}
 use Rattle.mr_base.specs.declared.reached.Reached.{Reached}
-use Rattle.mr_show.specs.Answer.{part_answer, part_values}
-use Rattle.mr_show.specs.Gathered.{gathered}
+use Rattle.mr_input.specs.Answer.{Answer, seen as written_as}
 use Rattle.mr_show.proofs.laid.laid.Goals as goal
 
 pub values_of-requires-clause-legal : goal.values_of-requires-clause-legal

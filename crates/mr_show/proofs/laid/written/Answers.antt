@@ -1,9 +1,6 @@
-use Rattle.std.proofs.Common.{ℕ, List, ap, ap₂, ◌∙◌}
+use Rattle.mr_show.proofs.Common.{ℕ, List, ap, ap₂, ◌∙◌, Answer, seen, either}
 use Rattle.mr_event.specs.declared.footprint.Pair.{Pair}
-use Rattle.mr_input.specs.Answer.{Answer}
 use Rattle.mr_answer.specs.Report.{report_status}
-use Rattle.mr_listing.specs.Seen.{seen}
-use Rattle.mr_two_orders.specs.Pairs.{either}
 use Rattle.mr_show.proofs.laid.written.Goals as goal
 
 pub text_of-requires-clause-rust : goal.text_of-requires-clause-rust

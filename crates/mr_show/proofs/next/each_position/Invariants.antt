@@ -1,5 +1,4 @@
-use Rattle.std.specs.Prelude.{◌≡◌, map, take}
-use Rattle.mr_listing.specs.Seen.{seen}
+use Rattle.mr_show.proofs.Common.{◌≡◌, map, take, seen}
 use Rattle.mr_show.specs.Next.{position_of}
 use Rattle.mr_show.proofs.next.each_position.Given as goal
 

@@ -1,10 +1,5 @@
-use Rattle.std.proofs.Common.{subst, sym}
-use Rattle.std.specs.Prelude.{Option}
-use Rattle.mr_step.specs.PlanLegal.{Fault}
-use Rattle.mr_start.specs.Runs.{schedule_fault}
+use Rattle.mr_show.proofs.Common.{subst, sym, Option, Fault, schedule_fault, Tells, next_from, reached_answer}
 use Rattle.mr_answer.proofs.RunLaws.{refused_read}
-use Rattle.mr_input.specs.Answer.{Tells}
-use Rattle.mr_show.specs.Next.{next_from, reached_answer}
 use Rattle.mr_show.proofs.NextLaws.{start_place, start_told}
 use Rattle.mr_show.proofs.next.next_run.Goals as goal
 

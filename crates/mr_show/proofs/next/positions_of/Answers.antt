@@ -1,6 +1,4 @@
-use Rattle.std.proofs.Common.{◌≡◌, ◌∙◌, [], ap}
-use Rattle.std.proofs.lemmas.Result.{IfOk-weaker}
-use Rattle.mr_listing.specs.Seen.{Seen}
+use Rattle.mr_show.proofs.Common.{◌≡◌, ◌∙◌, [], ap, IfOk-weaker, Seen}
 use Rattle.mr_show.specs.Next.{positions_in, standing_seen}
 use Rattle.mr_show.proofs.next.positions_of.Goals as goal
 

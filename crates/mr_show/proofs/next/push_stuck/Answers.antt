@@ -1,4 +1,4 @@
-use Rattle.std.specs.Prelude.{codes}
+use Rattle.mr_show.proofs.Common.{codes}
 use Rattle.mr_next.specs.Texts.{threads_text}
 use Rattle.mr_next.proofs.Appended.{last_behind}
 use Rattle.mr_show.proofs.next.push_stuck.Goals as goal

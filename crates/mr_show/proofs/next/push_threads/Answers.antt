@@ -1,5 +1,4 @@
-use Rattle.std.proofs.Common.{◌≡◌, ◌∙◌, ◌++◌, ℕ, List, subst}
-use Rattle.std.specs.Prelude.{OnOk}
+use Rattle.mr_show.proofs.Common.{◌≡◌, ◌∙◌, ◌++◌, ℕ, List, subst, OnOk}
 use Rattle.mr_show.specs.Next.{prospects_told}
 use Rattle.mr_show.proofs.next.push_threads.Goals as goal
 

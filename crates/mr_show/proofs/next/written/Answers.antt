@@ -1,7 +1,4 @@
-use Rattle.std.proofs.Common.{ℕ, List, ◌++◌, ◌∙◌, ap, ap₂}
-use Rattle.mr_sched.specs.declared.schedule.Entry.{Entry}
-use Rattle.mr_input.specs.Answer.{Answer}
-use Rattle.mr_show.specs.Next.{threads_told}
+use Rattle.mr_show.proofs.Common.{ℕ, List, ◌++◌, ◌∙◌, ap, ap₂, Entry, Answer, threads_told}
 use Rattle.mr_show.specs.Reached.{broken_told, status_by}
 use Rattle.mr_show.proofs.NextLaws.{reached_so}
 use Rattle.mr_show.proofs.next.written.Goals as goal

@@ -1,6 +1,4 @@
-use Rattle.std.proofs.Common.{◌≡◌, List, subst}
-use Rattle.std.specs.Prelude.{IfOk}
-use Rattle.mr_ast.specs.declared.program.Program.{Program}
+use Rattle.mr_show.proofs.Common.{◌≡◌, List, subst, IfOk, Program}
 use Rattle.mr_lex.specs.Tokens.{Lexeme}
 use Rattle.mr_places.specs.Laid.{Laid, firsts_of}
 use Rattle.mr_show.proofs.ShownLaws.{its_lexemes, no_program}

@@ -1,4 +1,4 @@
-use Rattle.std.proofs.Common.{ℕ, List, ◌++◌, ◌∙◌, ap}
+use Rattle.mr_show.proofs.Common.{ℕ, List, ◌++◌, ◌∙◌, ap}
 use Rattle.std.proofs.lemmas.Result.{on_ok_weaker}
 use Rattle.mr_listing.specs.ReportReport.{line}
 use Rattle.mr_show.specs.Sentences.{sentence_of}

@@ -1,4 +1,4 @@
-use Rattle.std.proofs.Common.{ap}
+use Rattle.mr_show.proofs.Common.{ap}
 use Rattle.mr_show.specs.Sentences.{sentence_in}
 use Rattle.mr_show.proofs.sentences.sentence_of.Goals as goal
 

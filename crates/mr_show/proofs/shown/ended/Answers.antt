@@ -1,11 +1,5 @@
-use Rattle.std.proofs.Common.{subst}
-use Rattle.mr_run.specs.Runs.{RunAnswer}
+use Rattle.mr_show.proofs.Common.{subst, RunAnswer, spoken_of, length, part_answer, part_values, IsToldAs, gathered}
 use Rattle.mr_answer.proofs.RunLaws.{refused_read}
-use Rattle.mr_replay.specs.Spoken.{spoken_of}
-use Rattle.std.specs.Prelude.{length}
-use Rattle.mr_show.specs.Answer.{part_answer, part_values}
-use Rattle.mr_show.specs.Answering.{IsToldAs}
-use Rattle.mr_show.specs.Gathered.{gathered}
 use Rattle.mr_show.proofs.ShownLaws.{told_broken, told_run}
 use Rattle.mr_show.proofs.shown.ended.Goals as goal
 

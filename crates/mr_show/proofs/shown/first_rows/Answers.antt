@@ -1,5 +1,4 @@
-use Rattle.std.proofs.Common.{◌∙◌}
-use Rattle.std.proofs.lemmas.Result.{IfOk-weaker}
+use Rattle.mr_show.proofs.Common.{◌∙◌, IfOk-weaker}
 use Rattle.mr_labels.specs.Table.{start_rows}
 use Rattle.mr_show.proofs.shown.first_rows.Goals as goal
 

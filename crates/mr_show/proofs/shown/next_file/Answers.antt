@@ -1,10 +1,4 @@
-use Rattle.std.proofs.Common.{inl, subst, sym}
-use Rattle.std.specs.Prelude.{Result}
-use Rattle.mr_sched.specs.declared.version.Read.{Read}
-use Rattle.mr_input.specs.declared.refusal.Refusal.{Refusal}
-use Rattle.mr_input.specs.Answer.{Tells, told}
-use Rattle.mr_input.proofs.InputLaws.{was_read}
-use Rattle.mr_show.specs.Answer.{next_under}
+use Rattle.mr_show.proofs.Common.{inl, subst, sym, Result, Read, Refusal, Tells, told, was_read, next_under}
 use Rattle.mr_show.proofs.shown.next_file.Goals as goal
 
 pub returns-in-Ok-clause-texts : goal.returns-in-Ok-clause-texts

@@ -1,4 +1,4 @@
-use Rattle.std.proofs.Common.{sym}
+use Rattle.mr_show.proofs.Common.{sym}
 use Rattle.mr_show.proofs.shown.ran.Goals as goal
 
 pub ran_told-requires-clause-asked : goal.ran_told-requires-clause-asked

@@ -1,8 +1,5 @@
-use Rattle.std.proofs.Common.{ap, arith, length, List, [], subst, sym}
-use Rattle.mr_event.specs.Footprint.{Footprint}
-use Rattle.mr_labels.specs.declared.rows.Allocation.{Allocation}
+use Rattle.mr_show.proofs.Common.{ap, arith, length, List, [], subst, sym, Footprint, Allocation, IsToldAs}
 use Rattle.mr_replay.proofs.ToldLaws.{where_ok}
-use Rattle.mr_show.specs.Answering.{IsToldAs}
 use Rattle.mr_show.proofs.AloneLaws.{alone_told}
 use Rattle.mr_show.proofs.shown.ran_alone.Goals as goal
 

@@ -1,8 +1,6 @@
-use Rattle.std.proofs.Common.{ap, sym, ◌∙◌, ◌++◌, List, [], Option}
-use Rattle.mr_labels.specs.declared.step.Stand.{Stand}
+use Rattle.mr_show.proofs.Common.{ap, sym, ◌∙◌, ◌++◌, List, [], Option, Stand, rows_in, stands_in, steps_in}
 use Rattle.mr_replay.specs.declared.telling.Between.{Between}
 use Rattle.mr_replay.specs.Stands.{stands_of}
-use Rattle.mr_show.specs.Answer.{rows_in, stands_in, steps_in}
 use Rattle.mr_show.proofs.ShownLaws.{few_feet, on_ok, told_whole}
 use Rattle.mr_show.proofs.shown.ran_stands.Goals as goal
 

@@ -1,11 +1,9 @@
-use Rattle.std.proofs.Common.{ap, sym, ◌∙◌, ◌++◌, List, [], Option}
-use Rattle.std.specs.Prelude.{flat_map}
-use Rattle.mr_labels.specs.declared.rows.Allocation.{Allocation}
+use Rattle.mr_show.proofs.Common.{ap, sym, ◌∙◌, ◌++◌, List, [], Option, flat_map, Allocation, rows_in, stands_in, steps_in}
 use Rattle.mr_labels.specs.declared.step.ToldStep.{ToldStep}
 use Rattle.mr_labels.specs.Table.{step_rows}
 use Rattle.mr_replay.specs.declared.telling.Between.{Between}
 use Rattle.mr_replay.specs.Told.{if_between, told_steps}
-use Rattle.mr_show.specs.Answer.{first_rows, rows_in, stands_in, steps_in}
+use Rattle.mr_show.specs.Answer.{first_rows}
 use Rattle.mr_show.proofs.ShownLaws.{few_feet, on_ok, told_whole}
 use Rattle.mr_show.proofs.shown.ran_told.Goals as goal
 

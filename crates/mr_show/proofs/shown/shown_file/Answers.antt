@@ -1,6 +1,4 @@
-use Rattle.std.proofs.Common.{refl, ◌∙◌, []}
-use Rattle.std.specs.Prelude.{Some}
-use Rattle.mr_input.proofs.InputLaws.{rose_in_all}
+use Rattle.mr_show.proofs.Common.{refl, ◌∙◌, [], Some, rose_in_all}
 use Rattle.mr_show.proofs.ShownLaws.{no_text, of_file}
 use Rattle.mr_show.proofs.shown.shown_file.Goals as goal
 

@@ -1,5 +1,4 @@
-use Rattle.std.proofs.Common.{ap, sym, ◌∙◌}
-use Rattle.std.specs.Prelude.{Ok, Some}
+use Rattle.mr_show.proofs.Common.{ap, sym, ◌∙◌, Ok, Some}
 use Rattle.mr_show.proofs.ShownLaws.{of_checked}
 use Rattle.mr_show.proofs.shown.shown_program.Goals as goal
 

@@ -1,5 +1,4 @@
-use Rattle.std.proofs.Common.{[]}
-use Rattle.std.specs.Prelude.{Some}
+use Rattle.mr_show.proofs.Common.{[], Some}
 use Rattle.mr_show.proofs.ShownLaws.{of_refused, of_text, was_parsed}
 use Rattle.mr_show.proofs.shown.shown_text.Goals as goal
 

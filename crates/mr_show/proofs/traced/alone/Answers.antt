@@ -1,5 +1,4 @@
-use Rattle.mr_trace.specs.Reading.{trace_of}
-use Rattle.mr_traced.specs.Seen.{run_in, seen_bare}
+use Rattle.mr_show.proofs.Common.{trace_of, run_in, seen_bare}
 use Rattle.mr_show.specs.declared.form.Telling.TheVariants.{Steps, TwoOrders}
 use Rattle.mr_show.proofs.traced.alone.Goals as goal
 

@@ -1,8 +1,4 @@
-use Rattle.std.proofs.Common.{◌∙◌, ◌++◌, ◌^◌, ap, inl, refl, subst, sym, List, ℕ}
-use Rattle.std.specs.Prelude.{Err, Option, Some}
-use Rattle.mr_input.specs.Answer.{Tells}
-use Rattle.mr_input.proofs.InputLaws.{longer}
-use Rattle.mr_show.specs.Traced.{bare_answer}
+use Rattle.mr_show.proofs.Common.{◌∙◌, ◌++◌, ◌^◌, ap, inl, refl, subst, sym, List, ℕ, Err, Option, Some, Tells, longer, bare_answer}
 use Rattle.mr_show.proofs.TracedLaws.{long_bare}
 use Rattle.mr_show.proofs.traced.bare_file.Goals as goal
 

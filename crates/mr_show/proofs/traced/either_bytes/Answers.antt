@@ -1,6 +1,4 @@
-use Rattle.std.proofs.Common.{inl, sym, ◌∙◌}
-use Rattle.std.specs.Prelude.{Some}
-use Rattle.std.proofs.lemmas.Result.{IfOk-weaker}
+use Rattle.mr_show.proofs.Common.{inl, sym, ◌∙◌, Some, IfOk-weaker}
 use Rattle.mr_show.proofs.TracedLaws.{traced, untraced}
 use Rattle.mr_show.proofs.traced.either_bytes.Goals as goal
 

@@ -1,6 +1,4 @@
-use Rattle.std.proofs.Common.{◌∙◌, ◌++◌, ◌^◌, ap, inl, refl, sym, List, ℕ, []}
-use Rattle.std.specs.Prelude.{Err, Some}
-use Rattle.mr_input.proofs.InputLaws.{longer, rose_in_all}
+use Rattle.mr_show.proofs.Common.{◌∙◌, ◌++◌, ◌^◌, ap, inl, refl, sym, List, ℕ, [], Err, Some, longer, rose_in_all}
 use Rattle.mr_show.proofs.TracedLaws.{long_first, of_bytes}
 use Rattle.mr_show.proofs.traced.either_file.Goals as goal
 

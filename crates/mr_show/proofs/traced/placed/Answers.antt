@@ -1,11 +1,6 @@
-use Rattle.std.proofs.Common.{subst}
-use Rattle.mr_input.specs.Answer.{Answer, Tells}
-use Rattle.mr_trace.specs.Reading.{trace_of}
-use Rattle.mr_traced.specs.Places.{named_of}
+use Rattle.mr_show.proofs.Common.{subst, Answer, Tells, trace_of, named_of, run_in, seen_in, IsTextOf}
 use Rattle.mr_traced.specs.Races.{IsRacesText}
-use Rattle.mr_traced.specs.Seen.{run_in, seen_in}
 use Rattle.mr_show.specs.declared.form.Telling.TheVariants.{Picture, Races, Steps, TwoOrders}
-use Rattle.mr_show.specs.Traced.{IsTextOf}
 use Rattle.mr_show.proofs.TracedLaws.{short_text, told_as}
 use Rattle.mr_show.proofs.traced.placed.Goals as goal
 

@@ -1,10 +1,6 @@
-use Rattle.std.proofs.Common.{◌≡◌, ℕ, List, ap, subst, ◌∙◌}
-use Rattle.std.specs.Prelude.{Err, Ok, Result}
-use Rattle.mr_input.specs.Answer.{Answer}
-use Rattle.mr_traced.specs.declared.refusal.Untold.{Untold}
+use Rattle.mr_show.proofs.Common.{◌≡◌, ℕ, List, ap, subst, ◌∙◌, Err, Ok, Result, Answer, Untold, IsTextOf, count_of}
 use Rattle.mr_traced.specs.declared.telling.Told.{Told}
 use Rattle.mr_traced.specs.Answers.{TellsBy}
-use Rattle.mr_show.specs.Traced.{IsTextOf, count_of}
 use Rattle.mr_show.proofs.TracedLaws.{answer_with, told_so}
 use Rattle.mr_show.proofs.traced.said.Goals as goal
 

@@ -1,6 +1,4 @@
-use Rattle.std.specs.Prelude.{Some}
-use Rattle.std.proofs.Common.{inl, sym}
-use Rattle.std.proofs.lemmas.Result.{IfOk-weaker}
+use Rattle.mr_show.proofs.Common.{Some, inl, sym, IfOk-weaker}
 use Rattle.mr_show.proofs.TracedLaws.{of_program}
 use Rattle.mr_show.proofs.traced.shown_files.Goals as goal
 

@@ -1,6 +1,4 @@
-use Rattle.std.proofs.Common.{◌≡◌, map, take}
-use Rattle.mr_start.specs.Begin.{piece_of}
-use Rattle.mr_start.specs.Start.{ask_of}
+use Rattle.mr_start.proofs.Common.{◌≡◌, map, take, piece_of, ask_of}
 use Rattle.mr_start.proofs.beginning.asks_of.Given as goal
 
 abbrev pub invariant-loop-piece : goal.invariant-loop-piece

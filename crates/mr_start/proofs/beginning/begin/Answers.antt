@@ -1,9 +1,5 @@
-use Rattle.std.proofs.Common.{◌≡◌, ◌-◌, ap, sym, ◌∙◌, subst, map, length-take-le, Err}
-use Rattle.std.specs.Prelude.{None}
+use Rattle.mr_start.proofs.Common.{◌≡◌, ◌-◌, ap, sym, ◌∙◌, subst, map, length-take-le, Err, None, WellFormed, JudgeAnswer, piece_of, pieces_fault, pieces}
 use Rattle.std.proofs.lemmas.Result.{err_from_is_err_and}
-use Rattle.mr_typing.specs.Walk.{WellFormed}
-use Rattle.mr_start.specs.Begin.{JudgeAnswer, piece_of, pieces_fault}
-use Rattle.mr_start.specs.Start.{pieces}
 use Rattle.mr_start.proofs.Begun.{front_begun, front_legal, front_possible, picks_long, refused_is, start_fault_is}
 use Rattle.mr_start.proofs.beginning.begin.Goals as goal
 

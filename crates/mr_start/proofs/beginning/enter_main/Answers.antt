@@ -1,4 +1,4 @@
-use Rattle.std.proofs.Common.{ap}
+use Rattle.mr_start.proofs.Common.{ap}
 use Rattle.mr_start.proofs.Begun.{made_within, main_begins, main_entered}
 use Rattle.mr_start.proofs.beginning.enter_main.Goals as goal
 

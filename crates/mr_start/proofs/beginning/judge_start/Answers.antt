@@ -1,9 +1,5 @@
-use Rattle.std.proofs.Common.{List, ap, sym, ◌∙◌, map}
+use Rattle.mr_start.proofs.Common.{List, ap, sym, ◌∙◌, map, Memory, id_cmp, ranges_of, Ask, picks_fault, piece_of}
 use Rattle.std.specs.FinMap as fin
-use Rattle.mr_mem.specs.Memory.{Memory, id_cmp, ranges_of}
-use Rattle.mr_sched.specs.declared.schedule.Ask.{Ask}
-use Rattle.mr_frame.specs.PlanLegal.{picks_fault}
-use Rattle.mr_start.specs.Begin.{piece_of}
 use Rattle.mr_start.proofs.PlacedLaws.{over_empty}
 use Rattle.mr_start.proofs.beginning.judge_start.Goals as goal
 

@@ -1,8 +1,5 @@
-use Rattle.std.proofs.Common.{◌≤◌, ap, sym, ◌∙◌, subst, length, take, drop}
-use Rattle.mr_ast.specs.declared.program.Program.{Program}
+use Rattle.mr_start.proofs.Common.{◌≤◌, ap, sym, ◌∙◌, subst, length, take, drop, Program, WellFormed, filled}
 use Rattle.mr_layout.specs.Cached.{IsCacheOf}
-use Rattle.mr_typing.specs.Walk.{WellFormed}
-use Rattle.mr_start.specs.Start.{filled}
 use Rattle.mr_start.proofs.Begun.{config_is, first_functions, first_globals, functions_within, look_is, many_functions, many_globals}
 use Rattle.mr_start.proofs.beginning.started.Goals as goal
 

@@ -1,5 +1,4 @@
-use Rattle.std.proofs.Common.{◌≡◌, drop}
-use Rattle.mr_start.specs.Start.{filled}
+use Rattle.mr_start.proofs.Common.{◌≡◌, drop, filled}
 use Rattle.mr_start.proofs.globals.fill.Given as goal
 
 abbrev pub invariant-loop-i : goal.invariant-loop-i

@@ -1,5 +1,4 @@
-use Rattle.std.proofs.Common.{subst, sym}
-use Rattle.mr_start.specs.Pieces.{HasRange}
+use Rattle.mr_start.proofs.Common.{subst, sym, HasRange}
 use Rattle.mr_start.proofs.StartStores.{length_items}
 use Rattle.mr_start.proofs.globals.fill_one.Goals as goal
 

@@ -1,5 +1,4 @@
-use Rattle.std.proofs.Common.{◌≡◌, take}
-use Rattle.mr_start.specs.Start.{global_bytes}
+use Rattle.mr_start.proofs.Common.{◌≡◌, take, global_bytes}
 use Rattle.mr_start.proofs.globals.global_bytes.Given as goal
 
 abbrev pub invariant-loop-item : goal.invariant-loop-item

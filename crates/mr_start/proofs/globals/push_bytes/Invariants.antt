@@ -1,4 +1,4 @@
-use Rattle.std.proofs.Common.{◌≡◌, ◌++◌, replicate}
+use Rattle.mr_start.proofs.Common.{◌≡◌, ◌++◌, replicate}
 use Rattle.mr_start.proofs.globals.push_bytes.Given as goal
 
 abbrev pub invariant-loop-i : goal.invariant-loop-i

@@ -1,5 +1,4 @@
-use Rattle.std.proofs.Common.{◌∙◌, ap}
-use Rattle.mr_eval.specs.Moves.{behind}
+use Rattle.mr_start.proofs.Common.{◌∙◌, ap, behind}
 use Rattle.mr_start.proofs.PieceStores.{next_stored}
 use Rattle.mr_start.proofs.globals.store_items.Goals as goal
 

@@ -1,7 +1,4 @@
-use Rattle.std.proofs.Common.{◌≡◌, drop, length}
-use Rattle.mr_mem.specs.Memory.{written}
-use Rattle.mr_start.specs.Pieces.{HasRange}
-use Rattle.mr_start.specs.Start.{global_bytes}
+use Rattle.mr_start.proofs.Common.{◌≡◌, drop, length, written, HasRange, global_bytes}
 use Rattle.mr_start.proofs.globals.store_items.Given as goal
 
 abbrev pub invariant-loop-item : goal.invariant-loop-item

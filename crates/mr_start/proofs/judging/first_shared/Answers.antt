@@ -1,8 +1,4 @@
-use Rattle.std.proofs.Common.{◌≡◌, ℕ, ◌+◌, ◌<◌, sym, ap, ◌∙◌, arith, cond, length, drop}
-use Rattle.std.specs.Prelude.{Some}
-use Rattle.mr_mem.specs.Memory.{first_overlapped}
-use Rattle.mr_sched.specs.declared.schedule.Ask.TheVariants.{Address}
-use Rattle.mr_start.specs.Judging.{picked}
+use Rattle.mr_start.proofs.Common.{◌≡◌, ℕ, ◌+◌, ◌<◌, sym, ap, ◌∙◌, arith, cond, length, drop, Some, first_overlapped, Address, picked}
 use Rattle.mr_start.proofs.Overlaps.{id_of}
 use Rattle.mr_start.proofs.PickLaws.{no_overlap_at, overlap_at}
 use Rattle.mr_start.proofs.judging.first_shared.Goals as goal

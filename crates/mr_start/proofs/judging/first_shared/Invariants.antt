@@ -1,6 +1,4 @@
-use Rattle.std.proofs.Common.{◌≡◌, ◌+◌, ◌≤◌, drop}
-use Rattle.mr_mem.specs.Memory.{first_overlapped}
-use Rattle.mr_start.specs.Judging.{picked}
+use Rattle.mr_start.proofs.Common.{◌≡◌, ◌+◌, ◌≤◌, drop, first_overlapped, picked}
 use Rattle.mr_start.proofs.judging.first_shared.Given as goal
 
 -- none of the picks so far is overlapped

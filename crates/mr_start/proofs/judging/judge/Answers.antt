@@ -1,8 +1,6 @@
-use Rattle.std.proofs.Common.{sym, ap, ◌∙◌, arith, get_or}
-use Rattle.std.specs.Prelude.{Some}
+use Rattle.mr_start.proofs.Common.{sym, ap, ◌∙◌, arith, get_or, Some, Address, address_among}
 use Rattle.std.proofs.lemmas.Result.{err_from_is_err_and}
-use Rattle.mr_sched.specs.declared.schedule.Ask.TheVariants.{Address}
-use Rattle.mr_start.specs.Judging.{address_among, fault_of}
+use Rattle.mr_start.specs.Judging.{fault_of}
 use Rattle.mr_start.proofs.PickLaws.{address_passes, address_refused, no_pick_left, picks_left, waiter_passes}
 use Rattle.mr_start.proofs.judging.judge.Goals as goal
 use Rattle.mr_start.proofs.judging.judge.Goals.{in-Address+in_ok-judge_address-in-Address, in-Waiter+in_ok-judge_waiter-in-Waiter}

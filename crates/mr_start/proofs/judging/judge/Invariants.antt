@@ -1,6 +1,4 @@
-use Rattle.std.proofs.Common.{◌≡◌, ◌≤◌, length, take, drop}
-use Rattle.mr_mem.specs.Memory.{ranges_of}
-use Rattle.mr_frame.specs.PlanLegal.{picks_fault}
+use Rattle.mr_start.proofs.Common.{◌≡◌, ◌≤◌, length, take, drop, ranges_of, picks_fault}
 use Rattle.mr_start.proofs.PickLaws.{fault_behind}
 use Rattle.mr_start.proofs.judging.judge.Given as goal
 

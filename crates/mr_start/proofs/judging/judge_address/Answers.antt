@@ -1,6 +1,4 @@
-use Rattle.std.proofs.Common.{Some, sym, ap, ◌∙◌}
-use Rattle.mr_mem.specs.Memory.{reused}
-use Rattle.mr_frame.specs.PlanLegal.{address_fault}
+use Rattle.mr_start.proofs.Common.{Some, sym, ap, ◌∙◌, reused, address_fault}
 use Rattle.mr_start.proofs.PickLaws.{bad_among, known_among}
 use Rattle.mr_start.proofs.judging.judge_address.Goals as goal
 use Rattle.mr_start.proofs.judging.judge_address.Goals.{in-Err-Reused, in-Ok}

@@ -1,5 +1,4 @@
-use Rattle.std.proofs.Common.{sym, subst}
-use Rattle.mr_start.specs.Begin.{HaveRoom}
+use Rattle.mr_start.proofs.Common.{sym, subst, HaveRoom}
 use Rattle.mr_start.proofs.StartFacts.{have_room}
 use Rattle.mr_start.proofs.pieces.pieces.Goals as goal
 

@@ -1,6 +1,4 @@
-use Rattle.std.proofs.Common.{◌≡◌, ◌++◌, map, take}
-use Rattle.mr_start.specs.Begin.{piece_of}
-use Rattle.mr_start.specs.Start.{function_piece}
+use Rattle.mr_start.proofs.Common.{◌≡◌, ◌++◌, map, take, piece_of, function_piece}
 use Rattle.mr_start.proofs.pieces.push_functions.Given as goal
 
 abbrev pub invariant-loop-function : goal.invariant-loop-function

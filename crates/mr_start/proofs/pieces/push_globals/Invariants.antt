@@ -1,6 +1,4 @@
-use Rattle.std.proofs.Common.{◌≡◌, ◌++◌, map, take}
-use Rattle.mr_start.specs.Begin.{piece_of}
-use Rattle.mr_start.specs.Start.{global_piece}
+use Rattle.mr_start.proofs.Common.{◌≡◌, ◌++◌, map, take, piece_of, global_piece}
 use Rattle.mr_start.proofs.pieces.push_globals.Given as goal
 
 abbrev pub invariant-loop-global : goal.invariant-loop-global

@@ -1,8 +1,7 @@
-use Rattle.mr_ast.specs.declared.program.Local.{Local}
+use Rattle.mr_start.proofs.Common.{Local, all_at}
 use Rattle.mr_layout.specs.TypeOk.{TypeOk}
 use Rattle.mr_typing.specs.Unbroken.{UnbrokenFunction}
 use Rattle.mr_typing.proofs.UnbrokenLaws.{well_formed_keeps}
-use Rattle.mr_base.proofs.Lists.{all_at}
 use Rattle.mr_start.proofs.pieces.return_local.Goals as goal
 
 pub returns : goal.returns

@@ -1,12 +1,6 @@
-use Rattle.std.proofs.Common.{◌≡◌, ℕ, List, [], ◌∷◌, ◌++◌, ap, sym, subst, ◌∙◌, drop, get_or, map, length, ◌+◌, ◌<◌}
-use Rattle.std.specs.Prelude.{None}
+use Rattle.mr_start.proofs.Common.{◌≡◌, ℕ, List, [], ◌∷◌, ◌++◌, ap, sym, subst, ◌∙◌, drop, get_or, map, length, ◌+◌, ◌<◌, None, Pointer, Memory, allocated, pointer_to, fault_over, own_id, piece_of, Piece, placed}
 use Rattle.mr_base.specs.declared.byte.Kind.TheVariants.{Heap}
-use Rattle.mr_base.specs.declared.byte.Pointer.{Pointer}
-use Rattle.mr_mem.specs.Memory.{Memory, allocated}
-use Rattle.mr_eval.specs.MemoryQueries.{pointer_to}
 use Rattle.mr_start.specs.declared.pieces.Piece.{Piece as Made}
-use Rattle.mr_start.specs.Begin.{fault_over, own_id, piece_of}
-use Rattle.mr_start.specs.Start.{Piece, placed}
 use Rattle.mr_start.proofs.PickLaws.{left_at}
 use Rattle.mr_start.proofs.PlacedLaws.{counted_next, legal_next, memory_next, over_empty, pick_there, piece_at, pointers_next}
 use Rattle.mr_start.proofs.StartStores.{AreCounted, none_counted}

@@ -1,7 +1,5 @@
-use Rattle.std.proofs.Common.{◌≡◌, ◌++◌, map, drop, None}
+use Rattle.mr_start.proofs.Common.{◌≡◌, ◌++◌, map, drop, None, fault_over, piece_of, placed}
 use Rattle.std.specs.FinMap as fin
-use Rattle.mr_start.specs.Begin.{fault_over, piece_of}
-use Rattle.mr_start.specs.Start.{placed}
 use Rattle.mr_start.proofs.StartStores.{AreCounted}
 use Rattle.mr_start.proofs.placing.place.Given as goal
 

@@ -1,10 +1,5 @@
-use Rattle.std.proofs.Common.{◌≡◌, refl, sym, ap, ◌∙◌}
-use Rattle.mr_frame.specs.Kept.{look_of}
-use Rattle.mr_plan.specs.Legal.{fault}
-use Rattle.mr_plan.specs.Runs.{entry_fault}
+use Rattle.mr_step.proofs.Common.{◌≡◌, refl, sym, ap, ◌∙◌, look_of, fault, entry_fault, thread_step, config_of, state_of, state_unless}
 use Rattle.mr_sync.specs.Tables.{is_enabled}
-use Rattle.mr_exchange.specs.StartSteps.{thread_step}
-use Rattle.mr_step.specs.Kept.{config_of, state_of, state_unless}
 use Rattle.mr_step.proofs.EntryLaws.{disabled_breaks, enabled_is, gone_breaks, running_is, stopped_breaks}
 use Rattle.mr_step.proofs.SoundLaws.{state_is}
 use Rattle.mr_step.proofs.advance.advance.Goals as goal

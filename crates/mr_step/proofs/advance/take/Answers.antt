@@ -1,12 +1,6 @@
-use Rattle.std.proofs.Common.{◌≡◌, refl, sym, subst, arith, ℕ, List, Some, Ok, Err}
+use Rattle.mr_step.proofs.Common.{◌≡◌, refl, sym, subst, arith, ℕ, List, Some, Ok, Err, slice_get_read, slice_get, look_of, Memory, Progress, ActAnswer, BeginsAct}
 use Rattle.std.proofs.lemmas.List.{length-set}
-use Rattle.std.proofs.lemmas.Option.{slice_get_read}
-use Rattle.std.specs.Prelude.{slice_get}
 use Rattle.std.specs.Vec.{with_item}
-use Rattle.mr_frame.specs.Kept.{look_of}
-use Rattle.mr_mem.specs.Memory.{Memory}
-use Rattle.mr_step.specs.declared.progress.Progress.{Progress}
-use Rattle.mr_step.specs.Advance.{ActAnswer, BeginsAct}
 use Rattle.mr_step.proofs.SoundLaws.{begins_act, thread_there}
 use Rattle.mr_step.proofs.TakenLaws.{acted, scene_begins, scene_count, scene_memory, scene_thread, takes, untaken}
 use Rattle.mr_step.proofs.advance.take.Goals as goal

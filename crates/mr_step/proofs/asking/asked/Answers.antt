@@ -1,8 +1,5 @@
-use Rattle.std.proofs.Common.{◌≡◌, Some, arith, refl, subst, sym}
-use Rattle.std.proofs.lemmas.Option.{slice_get_read}
-use Rattle.std.specs.Prelude.{slice_get}
+use Rattle.mr_step.proofs.Common.{◌≡◌, Some, arith, refl, subst, sym, slice_get_read, slice_get, state_of}
 use Rattle.mr_turn.specs.Asking.{AsksAnswer}
-use Rattle.mr_step.specs.Kept.{state_of}
 use Rattle.mr_step.proofs.AskLaws.{asked_begins, asked_there, needs_here}
 use Rattle.mr_step.proofs.asking.asked.Goals as goal
 

@@ -1,4 +1,4 @@
-use Rattle.std.specs.Prelude.{◌≡◌, ◌++◌, take}
+use Rattle.mr_step.proofs.Common.{◌≡◌, ◌++◌, take}
 use Rattle.mr_plan.specs.Notes.{whole_stores}
 use Rattle.mr_step.proofs.edition.store_freed.Given as goal
 

@@ -1,15 +1,5 @@
-use Rattle.std.proofs.Common.{◌≡◌, ◌+◌, ◌++◌, refl, sym, ap, ◌∙◌, length, Some}
+use Rattle.mr_step.proofs.Common.{◌≡◌, ◌+◌, ◌++◌, refl, sym, ap, ◌∙◌, length, Some, slice_set, option_map, started_threads, own_of, Progress, numbered, standing_thread, Program, Scene, look_of, completed, foot_by, verdict_in}
 use Rattle.std.proofs.lemmas.List.{length-set}
-use Rattle.std.specs.Prelude.{slice_set}
-use Rattle.std.specs.Option.{option_map}
-use Rattle.mr_plan.specs.Machine.{started_threads}
-use Rattle.mr_turn.specs.Turning.{own_of}
-use Rattle.mr_step.specs.declared.progress.Progress.{Progress}
-use Rattle.mr_step.specs.Kept.{numbered, standing_thread}
-use Rattle.mr_ast.specs.declared.program.Program.{Program}
-use Rattle.mr_eval.specs.declared.scene.Scene.{Scene}
-use Rattle.mr_frame.specs.Kept.{look_of}
-use Rattle.mr_step.specs.Settling.{completed, foot_by, verdict_in}
 use Rattle.mr_step.proofs.CompletedLaws.{IsBehind, leads}
 use Rattle.mr_step.proofs.Numbered.{numbered_length}
 use Rattle.mr_step.proofs.settle.complete.Goals as goal

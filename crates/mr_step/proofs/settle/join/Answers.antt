@@ -1,9 +1,5 @@
-use Rattle.std.proofs.Common.{◌++◌, ◌∷◌, [], sym, ap, ◌∙◌, arith, false, length}
-use Rattle.std.specs.Option.{option_map}
+use Rattle.mr_step.proofs.Common.{◌++◌, ◌∷◌, [], sym, ap, ◌∙◌, arith, false, length, option_map, started_threads, own_of, numbered}
 use Rattle.mr_frame.specs.declared.stack.Stack.{Stack as KeptStack}
-use Rattle.mr_plan.specs.Machine.{started_threads}
-use Rattle.mr_turn.specs.Turning.{own_of}
-use Rattle.mr_step.specs.Kept.{numbered}
 use Rattle.mr_step.proofs.Numbered.{numbered_append}
 use Rattle.mr_step.proofs.settle.join.Goals as goal
 

@@ -1,8 +1,6 @@
-use Rattle.std.proofs.Common.{◌≡◌, ap, ◌∙◌, arith}
+use Rattle.mr_step.proofs.Common.{◌≡◌, ap, ◌∙◌, arith, slice_set, numbered, standing_thread}
 use Rattle.std.proofs.lemmas.Option.{get_or_from_slice_get}
-use Rattle.std.specs.Prelude.{slice_set}
 use Rattle.mr_step.specs.declared.progress.Thread.{Thread as KeptThread}
-use Rattle.mr_step.specs.Kept.{numbered, standing_thread}
 use Rattle.mr_step.proofs.Numbered.{numbered_set}
 use Rattle.mr_step.proofs.settle.mark.Goals as goal
 

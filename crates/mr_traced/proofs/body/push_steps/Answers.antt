@@ -1,9 +1,5 @@
-use Rattle.std.proofs.Common.{◌≡◌, ℕ, ◌+◌, ◌-◌, ◌++◌, ◌∙◌, ap, arith}
-use Rattle.std.specs.Prelude.{flat_map}
-use Rattle.std.specs.List.{range_with_len}
+use Rattle.mr_traced.proofs.Common.{◌≡◌, ℕ, ◌+◌, ◌-◌, ◌++◌, ◌∙◌, ap, arith, flat_map, range_with_len, seen, step_text}
 use Rattle.mr_labels.proofs.Growing.{appended_next}
-use Rattle.mr_traced.specs.Seen.{seen}
-use Rattle.mr_traced.specs.Steps.{step_text}
 use Rattle.mr_traced.proofs.body.push_steps.Goals as goal
 
 pub loop-number-preserved : goal.loop-number-preserved

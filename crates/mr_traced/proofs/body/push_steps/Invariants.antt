@@ -1,7 +1,4 @@
-use Rattle.std.specs.Prelude.{max, ◌≡◌, ◌++◌, ◌-◌, ◌≤◌, flat_map}
-use Rattle.std.specs.List.{range_with_len}
-use Rattle.mr_traced.specs.Seen.{seen}
-use Rattle.mr_traced.specs.Steps.{step_text}
+use Rattle.mr_traced.proofs.Common.{max, ◌≡◌, ◌++◌, ◌-◌, ◌≤◌, flat_map, range_with_len, seen, step_text}
 use Rattle.mr_traced.proofs.body.push_steps.Given as goal
 
 -- the steps before this one have their lines

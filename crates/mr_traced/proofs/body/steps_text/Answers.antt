@@ -1,7 +1,6 @@
-use Rattle.std.proofs.Common.{List, subst, sym}
+use Rattle.mr_traced.proofs.Common.{List, subst, sym, seen}
 use Rattle.mr_listing.specs.declared.partners.Partner.{Partner}
 use Rattle.mr_listing.specs.Partners.{ArePartners}
-use Rattle.mr_traced.specs.Seen.{seen}
 use Rattle.mr_traced.proofs.body.steps_text.Goals as goal
 
 pub push_steps-requires : goal.push_steps-requires

@@ -1,6 +1,5 @@
-use Rattle.std.proofs.Common.{◌∙◌, ap, length}
+use Rattle.mr_traced.proofs.Common.{◌∙◌, ap, length, seen}
 use Rattle.mr_listing.specs.Races.{by_count}
-use Rattle.mr_traced.specs.Seen.{seen}
 use Rattle.mr_traced.proofs.GroupLaws.{few_groups}
 use Rattle.mr_traced.proofs.by_orders.in_order.Goals as goal
 

@@ -1,7 +1,6 @@
-use Rattle.std.proofs.Common.{subst, sym}
+use Rattle.mr_traced.proofs.Common.{subst, sym, seen}
 use Rattle.mr_two_orders.specs.Pairs.{IsRising}
 use Rattle.mr_two_orders.proofs.PairLaws.{predicted_rises, rust_rises}
-use Rattle.mr_traced.specs.Seen.{seen}
 use Rattle.mr_traced.proofs.by_orders.orders_text.Goals as goal
 
 pub bare_orders-requires-clause-rust : goal.bare_orders-requires-clause-rust

@@ -1,13 +1,9 @@
-use Rattle.std.proofs.Common.{◌≡◌, ◌++◌, ℕ, List, subst, sym}
+use Rattle.mr_traced.proofs.Common.{◌≡◌, ◌++◌, ℕ, List, subst, sym, Pair, last_behind, group_text, seen}
 use Rattle.std.specs.Prelude.{OnOk}
-use Rattle.mr_event.specs.declared.footprint.Pair.{Pair}
 use Rattle.mr_rust_order.specs.Tests.{rust_races}
-use Rattle.mr_listing.proofs.Appended.{last_behind}
 use Rattle.mr_two_orders.specs.Pairs.{IsRising}
 use Rattle.mr_two_orders.specs.Standing.{machine_line}
 use Rattle.mr_two_orders.proofs.PairLaws.{rust_rises}
-use Rattle.mr_traced.specs.Races.{group_text}
-use Rattle.mr_traced.specs.Seen.{seen}
 use Rattle.mr_traced.proofs.AloneLaws.{list_is, told_alone, told_with}
 use Rattle.mr_traced.proofs.by_orders.push_machine_group.Goals as goal
 

@@ -1,6 +1,4 @@
-use Rattle.std.specs.Prelude.{◌≡◌, ◌++◌, flat_map, take}
-use Rattle.mr_traced.specs.Orders.{machine_text}
-use Rattle.mr_traced.specs.Seen.{seen}
+use Rattle.mr_traced.proofs.Common.{◌≡◌, ◌++◌, flat_map, take, machine_text, seen}
 use Rattle.mr_traced.proofs.by_orders.push_machine_groups.Given as goal
 
 -- the groups before this one are written

@@ -1,6 +1,5 @@
-use Rattle.std.specs.Prelude.{◌≡◌, ◌++◌, flat_map, take}
+use Rattle.mr_traced.proofs.Common.{◌≡◌, ◌++◌, flat_map, take, seen}
 use Rattle.mr_traced.specs.Orders.{rust_text}
-use Rattle.mr_traced.specs.Seen.{seen}
 use Rattle.mr_traced.proofs.by_orders.push_rust_groups.Given as goal
 
 -- the groups before this one are written

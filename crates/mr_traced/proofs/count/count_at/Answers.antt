@@ -1,7 +1,4 @@
-use Rattle.std.proofs.Common.{◌∙◌, ap}
-use Rattle.std.specs.BTreeMap.{get}
-use Rattle.mr_traced.specs.Groups.{both_cmp, both_of, count_of, is_at}
-use Rattle.mr_traced.specs.Seen.{seen}
+use Rattle.mr_traced.proofs.Common.{◌∙◌, ap, get, both_cmp, both_of, count_of, is_at, seen}
 use Rattle.mr_traced.proofs.CountLaws.{count_grouped}
 use Rattle.mr_traced.proofs.count.count_at.Goals as goal
 

@@ -1,6 +1,4 @@
-use Rattle.std.specs.BTreeMap.{get}
-use Rattle.mr_traced.specs.Groups.{both_cmp}
-use Rattle.mr_traced.specs.Seen.{seen}
+use Rattle.mr_traced.proofs.Common.{get, both_cmp, seen}
 use Rattle.mr_traced.proofs.GroupLaws.{next_counted}
 use Rattle.mr_traced.proofs.count.counted.Goals as goal
 

@@ -1,8 +1,4 @@
-use Rattle.std.proofs.Common.{◌≡◌, take}
-use Rattle.std.specs.BTreeMap.{get}
-use Rattle.mr_traced.specs.declared.count.Both.{Both}
-use Rattle.mr_traced.specs.Groups.{both_cmp, group_at}
-use Rattle.mr_traced.specs.Seen.{seen}
+use Rattle.mr_traced.proofs.Common.{◌≡◌, take, get, Both, both_cmp, group_at, seen}
 use Rattle.mr_traced.proofs.count.counted.Given as goal
 
 -- the races before this one are counted

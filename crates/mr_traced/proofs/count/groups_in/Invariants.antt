@@ -1,5 +1,4 @@
-use Rattle.std.proofs.Common.{◌≡◌, ◌++◌}
-use Rattle.std.specs.Map.{values_of}
+use Rattle.mr_traced.proofs.Common.{◌≡◌, ◌++◌, values_of}
 use Rattle.mr_traced.proofs.count.groups_in.Given as goal
 
 -- those before this one are there

@@ -1,4 +1,4 @@
-use Rattle.mr_traced.specs.Seen.{seen}
+use Rattle.mr_traced.proofs.Common.{seen}
 use Rattle.mr_traced.proofs.GroupLaws.{are_groups}
 use Rattle.mr_traced.proofs.MapLaws.{groups_are}
 use Rattle.mr_traced.proofs.count.groups_of.Goals as goal

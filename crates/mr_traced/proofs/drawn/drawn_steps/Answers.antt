@@ -1,8 +1,5 @@
-use Rattle.std.proofs.Common.{◌≡◌, ℕ, ◌+◌, ◌-◌, ◌∷◌, [], ◌++◌, ◌∙◌, ap, arith, sym, map}
-use Rattle.std.specs.List.{range_with_len}
+use Rattle.mr_traced.proofs.Common.{◌≡◌, ℕ, ◌+◌, ◌-◌, ◌∷◌, [], ◌++◌, ◌∙◌, ap, arith, sym, map, range_with_len, drawn_step, seen}
 use Rattle.std.proofs.lemmas.List.FromFn.{map-range_with_len_more}
-use Rattle.mr_traced.specs.Drawn.{drawn_step}
-use Rattle.mr_traced.specs.Seen.{seen}
 use Rattle.mr_traced.proofs.drawn.drawn_steps.Goals as goal
 
 pub drawn_step-requires : goal.drawn_step-requires

@@ -1,7 +1,4 @@
-use Rattle.std.specs.Prelude.{max, ◌≡◌, ◌-◌, ◌≤◌, map}
-use Rattle.std.specs.List.{range_with_len}
-use Rattle.mr_traced.specs.Drawn.{drawn_step}
-use Rattle.mr_traced.specs.Seen.{seen}
+use Rattle.mr_traced.proofs.Common.{max, ◌≡◌, ◌-◌, ◌≤◌, map, range_with_len, drawn_step, seen}
 use Rattle.mr_traced.proofs.drawn.drawn_steps.Given as goal
 
 -- the steps before this one are there

@@ -1,8 +1,6 @@
-use Rattle.std.proofs.Common.{◌≡◌, subst}
-use Rattle.std.specs.Prelude.{IfOk}
+use Rattle.mr_traced.proofs.Common.{◌≡◌, subst, IfOk, seen}
 use Rattle.mr_picture.specs.declared.span.Span.{Span}
 use Rattle.mr_traced.specs.Drawn.{span_text}
-use Rattle.mr_traced.specs.Seen.{seen}
 use Rattle.mr_traced.proofs.drawn.picture_text.Goals as goal
 
 pub returns : goal.returns

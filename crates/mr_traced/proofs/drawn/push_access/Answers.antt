@@ -1,7 +1,5 @@
-use Rattle.std.proofs.Common.{◌++◌, ◌∙◌, ap}
-use Rattle.std.specs.Prelude.{codes, decimal}
+use Rattle.mr_traced.proofs.Common.{◌++◌, ◌∙◌, ap, codes, decimal, behind, last_behind}
 use Rattle.mr_listing.specs.Accesses.{access_word, bytes_text}
-use Rattle.mr_listing.proofs.Appended.{behind, last_behind}
 use Rattle.mr_traced.proofs.drawn.push_access.Goals as goal
 
 pub returns : goal.returns

@@ -1,10 +1,8 @@
-use Rattle.std.proofs.Common.{◌≡◌, ◌^◌, ◌<◌, ◌∙◌, ℕ, List, subst, sym}
-use Rattle.std.specs.Prelude.{All, IfOk}
+use Rattle.mr_traced.proofs.Common.{◌≡◌, ◌^◌, ◌<◌, ◌∙◌, ℕ, List, subst, sym, All, IfOk, drawn_steps, seen}
 use Rattle.mr_picture.specs.declared.scene.Drawn.{Drawn}
 use Rattle.mr_picture.specs.Picture.{scene_text}
 use Rattle.mr_picture.specs.Scene.{scene_of}
-use Rattle.mr_traced.specs.Drawn.{drawn_steps, sketch_of}
-use Rattle.mr_traced.specs.Seen.{seen}
+use Rattle.mr_traced.specs.Drawn.{sketch_of}
 use Rattle.mr_traced.proofs.DrawnLaws.{drawn_small}
 use Rattle.mr_traced.proofs.drawn.span_text.Goals as goal
 

@@ -1,5 +1,4 @@
-use Rattle.std.proofs.Common.{◌≡◌, flat_map, map, take}
-use Rattle.mr_traced.specs.Places.{name_in}
+use Rattle.mr_traced.proofs.Common.{◌≡◌, flat_map, map, take, name_in}
 use Rattle.mr_traced.proofs.form.names_in.Given as goal
 
 -- the names of the lines before this one are there

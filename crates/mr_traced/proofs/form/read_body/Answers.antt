@@ -1,4 +1,4 @@
-use Rattle.std.proofs.Common.{◌∙◌, Bor, List, ℕ, Ok, Option, ap, map, sym}
+use Rattle.mr_traced.proofs.Common.{◌∙◌, Bor, List, ℕ, Ok, Option, ap, map, sym}
 use Rattle.mr_traced.specs.Places.{is_wrong, unless_wrong}
 use Rattle.mr_traced.proofs.Made.{position_seen}
 use Rattle.mr_traced.proofs.form.read_body.Goals as goal

@@ -1,6 +1,5 @@
-use Rattle.std.proofs.Common.{◌∙◌, Bor, List, ℕ, ap, arith, flat_map, sym, take_all}
+use Rattle.mr_traced.proofs.Common.{◌∙◌, Bor, List, ℕ, ap, arith, flat_map, sym, take_all, site_in}
 use Rattle.std.proofs.lemmas.List.Folds.{flat_map-map}
-use Rattle.mr_traced.specs.Places.{site_in}
 use Rattle.mr_traced.proofs.Made.{next_made}
 use Rattle.mr_traced.proofs.form.sites_in.Goals as goal
 

@@ -1,5 +1,4 @@
-use Rattle.std.proofs.Common.{◌≡◌, flat_map, take}
-use Rattle.mr_traced.specs.Places.{site_in}
+use Rattle.mr_traced.proofs.Common.{◌≡◌, flat_map, take, site_in}
 use Rattle.mr_traced.proofs.form.sites_in.Given as goal
 
 -- the sites of the lines before this one are there

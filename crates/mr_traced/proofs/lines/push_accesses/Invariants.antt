@@ -1,4 +1,4 @@
-use Rattle.std.specs.Prelude.{◌≡◌, ◌++◌, flat_map, take}
+use Rattle.mr_traced.proofs.Common.{◌≡◌, ◌++◌, flat_map, take}
 use Rattle.mr_traced.specs.Steps.{access_line}
 use Rattle.mr_traced.proofs.lines.push_accesses.Given as goal
 

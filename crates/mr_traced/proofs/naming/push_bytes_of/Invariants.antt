@@ -1,4 +1,4 @@
-use Rattle.std.proofs.Common.{◌≡◌, ◌++◌, map, take}
+use Rattle.mr_traced.proofs.Common.{◌≡◌, ◌++◌, map, take}
 use Rattle.mr_traced.specs.Names.{shown_byte}
 use Rattle.mr_traced.proofs.naming.push_bytes_of.Given as goal
 

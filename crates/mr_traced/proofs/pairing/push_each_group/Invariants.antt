@@ -1,6 +1,4 @@
-use Rattle.std.specs.Prelude.{◌≡◌, ◌++◌, flat_map, take}
-use Rattle.mr_traced.specs.Races.{group_text}
-use Rattle.mr_traced.specs.Seen.{seen}
+use Rattle.mr_traced.proofs.Common.{◌≡◌, ◌++◌, flat_map, take, group_text, seen}
 use Rattle.mr_traced.proofs.pairing.push_each_group.Given as goal
 
 -- the groups before this one are written

@@ -1,11 +1,8 @@
-use Rattle.std.proofs.Common.{◌++◌, ◌∙◌, Option, ap}
-use Rattle.std.specs.Prelude.{codes, slice_get}
+use Rattle.mr_traced.proofs.Common.{◌++◌, ◌∙◌, Option, ap, codes, slice_get, behind, last_behind, seen}
 use Rattle.mr_listing.specs.Races.{times_text}
-use Rattle.mr_listing.proofs.Appended.{behind, last_behind}
 use Rattle.mr_traced.specs.declared.form.Site.{Site}
 use Rattle.mr_traced.specs.Names.{place_text}
 use Rattle.mr_traced.specs.Races.{side_text}
-use Rattle.mr_traced.specs.Seen.{seen}
 use Rattle.mr_traced.proofs.pairing.push_group.Goals as goal
 
 pub returns : goal.returns

@@ -1,6 +1,4 @@
-use Rattle.std.proofs.Common.{◌++◌}
-use Rattle.std.specs.Prelude.{codes, decimal}
-use Rattle.mr_listing.proofs.Appended.{behind}
+use Rattle.mr_traced.proofs.Common.{◌++◌, codes, decimal, behind}
 use Rattle.mr_traced.proofs.pairing.push_left.Goals as goal
 
 pub returns : goal.returns

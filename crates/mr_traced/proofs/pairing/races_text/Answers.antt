@@ -1,11 +1,6 @@
-use Rattle.std.proofs.Common.{List, ℕ, ◌++◌, ◌∙◌, ap, ap₂, length, subst}
-use Rattle.std.specs.Prelude.{flat_map}
+use Rattle.mr_traced.proofs.Common.{List, ℕ, ◌++◌, ◌∙◌, ap, ap₂, length, subst, flat_map, Group, AreGroups, group_text, seen}
 use Rattle.mr_listing.specs.ReportReport.{count_line}
-use Rattle.mr_listing.specs.declared.pairs.Group.{Group}
 use Rattle.mr_listing.specs.Races.{by_count}
-use Rattle.mr_traced.specs.Groups.{AreGroups}
-use Rattle.mr_traced.specs.Races.{group_text}
-use Rattle.mr_traced.specs.Seen.{seen}
 use Rattle.mr_traced.proofs.GroupLaws.{few_groups}
 use Rattle.mr_traced.proofs.pairing.races_text.Goals as goal
 

@@ -1,7 +1,4 @@
-use Rattle.mr_traced.specs.Orders.{IsOrdersText, count_either}
-use Rattle.mr_traced.specs.Places.{named}
-use Rattle.mr_traced.specs.Seen.{run_in}
-use Rattle.mr_trace.specs.Reading.{trace_of}
+use Rattle.mr_traced.proofs.Common.{IsOrdersText, count_either, named, run_in, trace_of}
 use Rattle.mr_traced.proofs.Chains.{bare_by}
 use Rattle.mr_traced.proofs.telling.orders_bare.Goals as goal
 

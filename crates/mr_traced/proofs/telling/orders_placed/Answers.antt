@@ -1,7 +1,4 @@
-use Rattle.mr_traced.specs.Orders.{IsOrdersText, count_either}
-use Rattle.mr_traced.specs.Places.{named, named_of}
-use Rattle.mr_traced.specs.Seen.{run_in}
-use Rattle.mr_trace.specs.Reading.{trace_of}
+use Rattle.mr_traced.proofs.Common.{IsOrdersText, count_either, named, named_of, run_in, trace_of}
 use Rattle.mr_traced.proofs.Chains.{told_by}
 use Rattle.mr_traced.proofs.telling.orders_placed.Goals as goal
 

@@ -1,7 +1,4 @@
-use Rattle.mr_traced.specs.Places.{named}
-use Rattle.mr_traced.specs.Seen.{run_in}
-use Rattle.mr_traced.specs.Drawn.{IsPictureText}
-use Rattle.mr_trace.specs.Reading.{trace_of}
+use Rattle.mr_traced.proofs.Common.{named, run_in, IsPictureText, trace_of}
 use Rattle.mr_traced.proofs.Chains.{told_bare}
 use Rattle.mr_traced.proofs.telling.picture_bare.Goals as goal
 

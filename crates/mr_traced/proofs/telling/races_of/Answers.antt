@@ -1,7 +1,4 @@
-use Rattle.std.proofs.Common.{◌∙◌, ap, length, subst}
-use Rattle.mr_traced.specs.Places.{named}
-use Rattle.mr_traced.specs.Races.{IsRacesText}
-use Rattle.mr_traced.specs.Seen.{Seen}
+use Rattle.mr_traced.proofs.Common.{◌∙◌, ap, length, subst, named, IsRacesText, Seen}
 use Rattle.mr_traced.proofs.Chains.{seen_with}
 use Rattle.mr_traced.proofs.telling.races_of.Goals as goal
 

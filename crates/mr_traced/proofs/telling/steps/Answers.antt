@@ -1,11 +1,4 @@
-use Rattle.std.proofs.Common.{List, Result, subst}
-use Rattle.mr_event.specs.Footprint.{Footprint}
-use Rattle.mr_trace.specs.Reading.{Place}
-use Rattle.mr_trace.proofs.TraceLaws.{trace_again}
-use Rattle.mr_traced.specs.Answers.{Tells}
-use Rattle.mr_traced.specs.Places.{named_of}
-use Rattle.mr_traced.specs.Seen.{run_in, seen_bare, seen_in}
-use Rattle.mr_traced.specs.Steps.{IsStepsText}
+use Rattle.mr_traced.proofs.Common.{List, Result, subst, Footprint, Place, trace_again, Tells, named_of, run_in, seen_bare, seen_in, IsStepsText}
 use Rattle.mr_traced.proofs.telling.steps.Goals as goal
 
 pub returns-in-Some-clause-spelled : goal.returns-in-Some-clause-spelled

@@ -1,7 +1,4 @@
-use Rattle.mr_traced.specs.Places.{named, named_of}
-use Rattle.mr_traced.specs.Seen.{run_in}
-use Rattle.mr_traced.specs.Steps.{IsStepsText}
-use Rattle.mr_trace.specs.Reading.{trace_of}
+use Rattle.mr_traced.proofs.Common.{named, named_of, run_in, IsStepsText, trace_of}
 use Rattle.mr_traced.proofs.Chains.{told_is}
 use Rattle.mr_traced.proofs.telling.steps_placed.Goals as goal
 

@@ -1,11 +1,4 @@
-use Rattle.std.proofs.Common.{refl, subst, sym}
-use Rattle.std.specs.Prelude.{None, Ok}
-use Rattle.mr_frame.specs.PlanNotes.{start_notes}
-use Rattle.mr_frame.specs.Kept.{look_of, stack_of}
-use Rattle.mr_frame.specs.Operations.{next_do}
-use Rattle.mr_intr.specs.Effects.{shared_of}
-use Rattle.mr_turn.specs.Asking.{AsksAnswer}
-use Rattle.mr_turn.specs.Turning.{own_of}
+use Rattle.mr_turn.proofs.Common.{refl, subst, sym, None, Ok, start_notes, look_of, stack_of, next_do, shared_of, AsksAnswer, own_of}
 use Rattle.mr_turn.proofs.AskAnswers.{none_due}
 use Rattle.mr_turn.proofs.DoAnswers.{due_named}
 use Rattle.mr_turn.proofs.FrameTurns.{frame_needs}

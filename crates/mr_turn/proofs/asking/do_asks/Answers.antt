@@ -1,16 +1,6 @@
-use Rattle.std.proofs.Common.{◌≡◌, ◌∙◌, [], ap, false, refl, subst, sym}
-use Rattle.std.specs.Prelude.{Err, None, Ok}
+use Rattle.mr_turn.proofs.Common.{◌≡◌, ◌∙◌, [], ap, false, refl, subst, sym, Err, None, Ok, Went, stop_with, seen, TellsBy, operands_of, argued, look_of, shared_of, AsksAnswer, may_ask}
 use Rattle.mr_mem.specs.declared.fault.Fault.{Fault}
 use Rattle.mr_mem.specs.declared.fault.Fault.TheVariants as fault
-use Rattle.mr_base.specs.Script.{Went}
-use Rattle.mr_base.specs.Stops.{stop_with}
-use Rattle.mr_eval.specs.Answers.{seen}
-use Rattle.mr_eval.specs.World.{TellsBy}
-use Rattle.mr_frame.specs.Doing.{operands_of}
-use Rattle.mr_frame.specs.Effects.{argued}
-use Rattle.mr_frame.specs.Kept.{look_of}
-use Rattle.mr_intr.specs.Effects.{shared_of}
-use Rattle.mr_turn.specs.Asking.{AsksAnswer, may_ask}
 use Rattle.mr_turn.proofs.AskAnswers.{behind, given_needs, none_asked, stopped_needs}
 use Rattle.mr_turn.proofs.DoAnswers.{operands_fit}
 use Rattle.mr_turn.proofs.QuietNeeds.{quiet_needs}

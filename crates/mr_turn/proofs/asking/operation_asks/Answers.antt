@@ -1,10 +1,4 @@
-use Rattle.std.proofs.Common.{subst, sym}
-use Rattle.std.specs.Prelude.{Err, None, Ok}
-use Rattle.mr_frame.specs.Doing.{operands_of}
-use Rattle.mr_frame.specs.Kept.{look_of}
-use Rattle.mr_intr.specs.Effects.{shared_of}
-use Rattle.mr_turn.specs.Asking.{AsksAnswer}
-use Rattle.mr_turn.specs.Turning.{own_of}
+use Rattle.mr_turn.proofs.Common.{subst, sym, Err, None, Ok, operands_of, look_of, shared_of, AsksAnswer, own_of}
 use Rattle.mr_turn.proofs.AskAnswers.{asked_given, none_asked, operands_told, told_code, told_needs, told_none}
 use Rattle.mr_turn.proofs.asking.operation_asks.Goals as goal
 

@@ -1,13 +1,5 @@
-use Rattle.std.proofs.Common.{subst, sym}
-use Rattle.std.specs.Prelude.{None, Ok}
-use Rattle.mr_base.specs.Stops.{plainly}
-use Rattle.mr_base.specs.declared.reason.Reason.TheVariants.{NotAFunction}
+use Rattle.mr_turn.proofs.Common.{subst, sym, None, Ok, plainly, NotAFunction, operands_of, look_of, shared_of, AsksAnswer, own_of}
 use Rattle.mr_ast.specs.declared.program.Intrinsic.TheVariants as intrinsic
-use Rattle.mr_frame.specs.Doing.{operands_of}
-use Rattle.mr_frame.specs.Kept.{look_of}
-use Rattle.mr_intr.specs.Effects.{shared_of}
-use Rattle.mr_turn.specs.Asking.{AsksAnswer}
-use Rattle.mr_turn.specs.Turning.{own_of}
 use Rattle.mr_turn.proofs.AskAnswers.{asked_given, none_asked, stops_needs}
 use Rattle.mr_turn.proofs.SpawnAnswers.{first_pointer, no_callee, spawn_given_for, stands_for}
 use Rattle.mr_turn.proofs.SpawnTurns.{none_planned}

@@ -1,8 +1,4 @@
-use Rattle.std.proofs.Common.{◌∙◌, subst, sym}
-use Rattle.std.specs.Prelude.{None, Ok}
-use Rattle.std.proofs.lemmas.Option.{same_Some}
-use Rattle.mr_intr.specs.Effects.{shared_of}
-use Rattle.mr_turn.specs.Asking.{AsksAnswer}
+use Rattle.mr_turn.proofs.Common.{◌∙◌, subst, sym, None, Ok, same_Some, shared_of, AsksAnswer}
 use Rattle.mr_turn.proofs.AskAnswers.{asked_start, none_asked, other_needs, thread_needs, told_code}
 use Rattle.mr_turn.proofs.SpawnAnswers.{found_types}
 use Rattle.mr_turn.proofs.asking.start_asks.Goals as goal

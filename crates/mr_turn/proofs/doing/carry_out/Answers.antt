@@ -1,8 +1,4 @@
-use Rattle.std.proofs.Common.{[], subst, sym}
-use Rattle.std.specs.Prelude.{Err, Ok}
-use Rattle.mr_turn.specs.declared.deed.TurnFault.{TurnFault}
-use Rattle.mr_turn.specs.Doing.{do_comes_to}
-use Rattle.mr_turn.specs.Turning.{DeedAnswer, Does}
+use Rattle.mr_turn.proofs.Common.{[], subst, sym, Err, Ok, TurnFault, do_comes_to, DeedAnswer, Does}
 use Rattle.mr_turn.proofs.CarryAnswers.{carried, carried_end, carried_for, carry_done, carry_lawful_as, carry_refused, fits_place}
 use Rattle.mr_turn.proofs.doing.carry_out.Goals as goal
 

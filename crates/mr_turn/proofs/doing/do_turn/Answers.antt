@@ -1,20 +1,7 @@
-use Rattle.std.proofs.Common.{refl, subst, subst₂, sym}
-use Rattle.std.specs.Prelude.{Err, Option}
+use Rattle.mr_turn.proofs.Common.{refl, subst, sym, Err, Option, Outcome, stop_with, seen, TellsBy, Notes, Shared, operands_of, argued, look_of, Turn, Does, IsSame, StopAnswer, TurnAnswer, begun, comes_to, own_of, planned, Scene, do_breaks, do_comes_to}
+use Rattle.std.proofs.Common.{subst₂}
 use Rattle.mr_mem.specs.declared.fault.Fault.{Fault}
-use Rattle.mr_base.specs.Script.{Outcome}
-use Rattle.mr_base.specs.Stops.{stop_with}
-use Rattle.mr_eval.specs.Answers.{seen}
-use Rattle.mr_eval.specs.World.{TellsBy}
 use Rattle.mr_frame.specs.PlanLegal.{Fault as FaultOf}
-use Rattle.mr_frame.specs.PlanNotes.{Notes}
-use Rattle.mr_frame.specs.PlanQueries.{Shared}
-use Rattle.mr_frame.specs.Doing.{operands_of}
-use Rattle.mr_frame.specs.Effects.{argued}
-use Rattle.mr_frame.specs.Kept.{look_of}
-use Rattle.mr_start.specs.Steps.{Turn}
-use Rattle.mr_turn.specs.Turning.{Does, IsSame, StopAnswer, TurnAnswer, begun, comes_to, own_of, planned}
-use Rattle.mr_eval.specs.declared.scene.Scene.{Scene}
-use Rattle.mr_turn.specs.Doing.{do_breaks, do_comes_to}
 use Rattle.mr_turn.proofs.FrameAnswers.{turn_as}
 use Rattle.mr_turn.proofs.DoAnswers.{given_breaks, given_comes, operands_fit, stopped_comes, stopped_planned, stopped_turn}
 use Rattle.mr_turn.proofs.doing.do_turn.Goals as goal

@@ -1,11 +1,4 @@
-use Rattle.std.proofs.Common.{subst, sym}
-use Rattle.std.specs.Prelude.{Err, Some}
-use Rattle.mr_eval.specs.World.{world_of}
-use Rattle.mr_frame.specs.Doing.{operands_of}
-use Rattle.mr_frame.specs.Effects.{finished}
-use Rattle.mr_frame.specs.Kept.{stack_of}
-use Rattle.mr_turn.specs.declared.deed.TurnFault.{TurnFault}
-use Rattle.mr_turn.specs.Doing.{EndAnswer, IsNoted}
+use Rattle.mr_turn.proofs.Common.{subst, sym, Err, Some, world_of, operands_of, finished, stack_of, TurnFault, EndAnswer, IsNoted}
 use Rattle.mr_turn.proofs.DoAnswers.{ended_refused}
 use Rattle.mr_turn.proofs.doing.end.Goals as goal
 

@@ -1,12 +1,4 @@
-use Rattle.std.proofs.Common.{subst, sym}
-use Rattle.std.specs.Prelude.{Err}
-use Rattle.mr_eval.specs.World.{TellsBy, world_of}
-use Rattle.mr_frame.specs.Doing.{operands_of}
-use Rattle.mr_frame.specs.Effects.{finished}
-use Rattle.mr_frame.specs.Frames.{Stack}
-use Rattle.mr_frame.specs.Kept.{stack_of}
-use Rattle.mr_turn.specs.declared.deed.TurnFault.{TurnFault}
-use Rattle.mr_turn.specs.Doing.{EndAnswer, IsTold}
+use Rattle.mr_turn.proofs.Common.{subst, sym, Err, TellsBy, world_of, operands_of, finished, Stack, stack_of, TurnFault, EndAnswer, IsTold}
 use Rattle.mr_turn.proofs.DoAnswers.{ended_refused}
 use Rattle.mr_turn.proofs.doing.end_told.Goals as goal
 

@@ -1,12 +1,5 @@
-use Rattle.std.proofs.Common.{◌∙◌, ap, refl, subst, sym}
-use Rattle.std.specs.Prelude.{Err, Ok}
-use Rattle.mr_base.specs.Script.{Refused}
-use Rattle.mr_base.specs.Stops.{stop_with}
+use Rattle.mr_turn.proofs.Common.{◌∙◌, ap, refl, subst, sym, Err, Ok, Refused, stop_with, operands_of, look_of, do_breaks, do_comes_to, do_planned, Does, IsSame, JudgeAnswer, begun, own_of}
 use Rattle.mr_eval.proofs.RefusedLaws.{stop_plainly}
-use Rattle.mr_frame.specs.Doing.{operands_of}
-use Rattle.mr_frame.specs.Kept.{look_of}
-use Rattle.mr_turn.specs.Doing.{do_breaks, do_comes_to, do_planned}
-use Rattle.mr_turn.specs.Turning.{Does, IsSame, JudgeAnswer, begun, own_of}
 use Rattle.mr_turn.proofs.CarryAnswers.{carry_comes, carry_needs, carry_stops, told_needs}
 use Rattle.mr_turn.proofs.DoAnswers.{given_for, stopped_turn}
 use Rattle.mr_turn.proofs.FrameAnswers.{deed_is_turn, judged_broken}

@@ -1,15 +1,6 @@
-use Rattle.std.proofs.Common.{◌∙◌, [], Some, length, refl, subst, sym}
-use Rattle.std.specs.Prelude.{Err}
+use Rattle.mr_turn.proofs.Common.{◌∙◌, [], Some, length, refl, subst, sym, Err, NoPayload, world_of, result_fits, operands_of, finished, look_of, stack_of, IsNoted, do_breaks, do_comes_to, do_planned, Does, IsSame, TurnAnswer, asks_break, begun, own_of}
 use Rattle.mr_ast.specs.declared.program.Intrinsic.TheVariants as intrinsic
-use Rattle.mr_base.specs.declared.reason.Reason.TheVariants.{NoPayload}
 use Rattle.mr_value.specs.declared.val.Val.TheVariants as val
-use Rattle.mr_eval.specs.World.{world_of}
-use Rattle.mr_frame.proofs.ResultFits.{result_fits}
-use Rattle.mr_frame.specs.Doing.{operands_of}
-use Rattle.mr_frame.specs.Effects.{finished}
-use Rattle.mr_frame.specs.Kept.{look_of, stack_of}
-use Rattle.mr_turn.specs.Doing.{IsNoted, do_breaks, do_comes_to, do_planned}
-use Rattle.mr_turn.specs.Turning.{Does, IsSame, TurnAnswer, asks_break, begun, own_of}
 use Rattle.mr_turn.proofs.DoAnswers.{end_is_deed, given_for, payload_breaks, payload_comes, payload_done, payload_fits, payload_refused, payload_stops, stopped_turn}
 use Rattle.mr_turn.proofs.FrameAnswers.{deed_is_turn, judged_broken}
 use Rattle.mr_turn.proofs.doing.payload.Goals as goal

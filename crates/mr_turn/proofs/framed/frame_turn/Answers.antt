@@ -1,5 +1,4 @@
-use Rattle.std.proofs.Common.{◌∙◌, arith, refl, sym}
-use Rattle.mr_turn.specs.Turning.{Does, IsSame, breaks, comes_to}
+use Rattle.mr_turn.proofs.Common.{◌∙◌, arith, refl, sym, Does, IsSame, breaks, comes_to}
 use Rattle.mr_turn.proofs.FrameAnswers.{deed_is_turn, frame_breaks, judged_turn, lawful_fresh}
 use Rattle.mr_turn.proofs.framed.frame_turn.Goals as goal
 

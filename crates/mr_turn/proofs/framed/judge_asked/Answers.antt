@@ -1,8 +1,6 @@
-use Rattle.std.proofs.Common.{◌++◌, ◌∙◌, ap, subst, sym}
-use Rattle.mr_frame.specs.Acting.{nothing_seen}
+use Rattle.mr_turn.proofs.Common.{◌∙◌, ap, subst, sym, nothing_seen, look_of, stack_of, IsJudged, asks_break}
+use Rattle.std.proofs.Common.{◌++◌}
 use Rattle.mr_frame.specs.Effects.{asked}
-use Rattle.mr_frame.specs.Kept.{look_of, stack_of}
-use Rattle.mr_turn.specs.Turning.{IsJudged, asks_break}
 use Rattle.mr_turn.proofs.FrameAnswers.{frame_breaks, judged_so}
 use Rattle.mr_turn.proofs.framed.judge_asked.Goals as goal
 

@@ -1,11 +1,4 @@
-use Rattle.std.proofs.Common.{length, subst, sym}
-use Rattle.std.specs.Prelude.{Err}
-use Rattle.mr_base.specs.Stops.{stop_with}
-use Rattle.mr_eval.specs.World.{world_of}
-use Rattle.mr_frame.specs.Effects.{acted}
-use Rattle.mr_frame.specs.Kept.{look_of, onward_of, stack_of}
-use Rattle.mr_turn.specs.declared.deed.TurnFault.{TurnFault}
-use Rattle.mr_turn.specs.Turning.{DeedAnswer, Does, comes_to}
+use Rattle.mr_turn.proofs.Common.{length, subst, sym, Err, stop_with, world_of, acted, look_of, onward_of, stack_of, TurnFault, DeedAnswer, Does, comes_to}
 use Rattle.mr_turn.proofs.FrameAnswers.{refused_by, stopped_deed}
 use Rattle.mr_turn.proofs.FrameTurns.{flow_refused, flow_turned}
 use Rattle.mr_turn.proofs.Threads.{acted_thread}

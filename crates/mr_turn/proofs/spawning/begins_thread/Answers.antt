@@ -1,4 +1,4 @@
-use Rattle.std.proofs.Common.{◌∙◌, ap, sym, length}
+use Rattle.mr_turn.proofs.Common.{◌∙◌, ap, sym, length}
 use Rattle.mr_turn.proofs.ThreadTypes.{other_types}
 use Rattle.mr_turn.proofs.spawning.begins_thread.Goals as goal
 

@@ -1,12 +1,5 @@
-use Rattle.std.proofs.Common.{subst, sym}
-use Rattle.std.specs.Prelude.{Err, Some}
+use Rattle.mr_turn.proofs.Common.{subst, sym, Err, Some, world_of, operands_of, finished, stack_of, TurnFault, EndAnswer, IsNewThread}
 use Rattle.mr_value.specs.declared.val.Val.TheVariants as val
-use Rattle.mr_eval.specs.World.{world_of}
-use Rattle.mr_frame.specs.Doing.{operands_of}
-use Rattle.mr_frame.specs.Effects.{finished}
-use Rattle.mr_frame.specs.Kept.{stack_of}
-use Rattle.mr_turn.specs.declared.deed.TurnFault.{TurnFault}
-use Rattle.mr_turn.specs.Doing.{EndAnswer, IsNewThread}
 use Rattle.mr_turn.proofs.DoAnswers.{ended_refused}
 use Rattle.mr_turn.proofs.spawning.end_start.Goals as goal
 

@@ -1,10 +1,5 @@
-use Rattle.std.proofs.Common.{refl}
-use Rattle.mr_base.specs.declared.reason.Reason.TheVariants.{NotAFunction}
+use Rattle.mr_turn.proofs.Common.{refl, NotAFunction, operands_of, look_of, do_comes_to, do_planned, Does, IsSame, begun, own_of}
 use Rattle.mr_ast.specs.declared.program.Intrinsic.TheVariants as intrinsic
-use Rattle.mr_frame.specs.Doing.{operands_of}
-use Rattle.mr_frame.specs.Kept.{look_of}
-use Rattle.mr_turn.specs.Doing.{do_comes_to, do_planned}
-use Rattle.mr_turn.specs.Turning.{Does, IsSame, begun, own_of}
 use Rattle.mr_turn.proofs.DoAnswers.{given_for, stopped_turn}
 use Rattle.mr_turn.proofs.SpawnAnswers.{first_pointer, no_callee, spawn_given_for, spawns}
 use Rattle.mr_turn.proofs.SpawnTurns.{none_planned, none_turned}

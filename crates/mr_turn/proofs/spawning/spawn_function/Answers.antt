@@ -1,10 +1,4 @@
-use Rattle.std.proofs.Common.{◌∙◌, refl, subst, sym}
-use Rattle.std.specs.Prelude.{Err}
-use Rattle.mr_base.specs.declared.reason.Reason.TheVariants.{SignatureMismatch}
-use Rattle.mr_frame.specs.Doing.{operands_of}
-use Rattle.mr_frame.specs.Kept.{look_of}
-use Rattle.mr_turn.specs.Doing.{do_breaks, do_comes_to, do_planned}
-use Rattle.mr_turn.specs.Turning.{Does, IsSame, JudgeAnswer, begun, own_of}
+use Rattle.mr_turn.proofs.Common.{◌∙◌, refl, subst, sym, Err, SignatureMismatch, operands_of, look_of, do_breaks, do_comes_to, do_planned, Does, IsSame, JudgeAnswer, begun, own_of}
 use Rattle.mr_turn.proofs.DoAnswers.{stopped_turn}
 use Rattle.mr_turn.proofs.FrameAnswers.{deed_is_turn, judged_broken}
 use Rattle.mr_turn.proofs.SpawnAnswers.{found_start, spawns_for, start_breaks, start_fits}

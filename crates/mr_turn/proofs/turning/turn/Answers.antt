@@ -1,5 +1,4 @@
-use Rattle.mr_frame.specs.Kept.{look_of, stack_of}
-use Rattle.mr_frame.specs.Operations.{next_do}
+use Rattle.mr_turn.proofs.Common.{look_of, stack_of, next_do}
 use Rattle.mr_turn.proofs.DoAnswers.{due_named}
 use Rattle.mr_turn.proofs.turning.turn.Goals as goal
 

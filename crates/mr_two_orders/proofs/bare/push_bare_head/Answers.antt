@@ -1,6 +1,4 @@
-use Rattle.std.proofs.Common.{◌++◌}
-use Rattle.std.specs.Prelude.{codes}
-use Rattle.mr_listing.proofs.Appended.{behind, last_behind}
+use Rattle.mr_two_orders.proofs.Common.{◌++◌, codes, behind, last_behind}
 use Rattle.mr_two_orders.specs.Standing.{races_word}
 use Rattle.mr_two_orders.proofs.bare.push_bare_head.Goals as goal
 

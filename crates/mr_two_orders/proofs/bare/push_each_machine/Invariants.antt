@@ -1,4 +1,4 @@
-use Rattle.std.specs.Prelude.{◌≡◌, ◌++◌, flat_map, take}
+use Rattle.mr_two_orders.proofs.Common.{◌≡◌, ◌++◌, flat_map, take}
 use Rattle.mr_two_orders.specs.Bare.{bare_machine}
 use Rattle.mr_two_orders.proofs.bare.push_each_machine.Given as goal
 

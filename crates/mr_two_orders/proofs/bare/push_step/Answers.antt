@@ -1,7 +1,4 @@
-use Rattle.std.proofs.Common.{◌≡◌, ◌++◌, Option, subst}
-use Rattle.std.specs.Prelude.{OnOk, slice_get}
-use Rattle.mr_event.specs.Footprint.{Footprint}
-use Rattle.mr_listing.proofs.Appended.{last_behind}
+use Rattle.mr_two_orders.proofs.Common.{◌≡◌, ◌++◌, Option, subst, OnOk, slice_get, Footprint, last_behind}
 use Rattle.mr_picture.specs.Texts.{step_word}
 use Rattle.mr_two_orders.specs.Bare.{thread_text}
 use Rattle.mr_two_orders.proofs.bare.push_step.Goals as goal

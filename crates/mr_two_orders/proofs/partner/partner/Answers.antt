@@ -1,8 +1,6 @@
-use Rattle.std.proofs.Common.{◌∙◌, ap, arith, rules, sym}
-use Rattle.std.specs.Prelude.{nat_lt}
+use Rattle.mr_two_orders.proofs.Common.{◌∙◌, ap, arith, sym, nat_lt, Pair, first_of}
+use Rattle.std.proofs.Common.{rules}
 use Rattle.std.proofs.lemmas.List.Sorted.{IsPartitionPoint-from_clause, IsPartitionedBy-ltb}
-use Rattle.mr_event.specs.declared.footprint.Pair.{Pair}
-use Rattle.mr_two_orders.specs.Pairs.{first_of}
 use Rattle.mr_two_orders.proofs.PairLaws.{partner_at, rising_steps}
 use Rattle.mr_two_orders.proofs.partner.partner.Goals as goal
 

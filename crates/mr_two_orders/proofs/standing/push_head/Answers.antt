@@ -1,6 +1,4 @@
-use Rattle.std.proofs.Common.{◌++◌}
-use Rattle.std.specs.Prelude.{codes}
-use Rattle.mr_listing.proofs.Appended.{behind, last_behind}
+use Rattle.mr_two_orders.proofs.Common.{◌++◌, codes, behind, last_behind}
 use Rattle.mr_two_orders.specs.Standing.{count_text}
 use Rattle.mr_two_orders.proofs.standing.push_head.Goals as goal
 

@@ -1,6 +1,4 @@
-use Rattle.std.specs.Prelude.{codes}
-use Rattle.mr_listing.proofs.Appended.{last_behind}
-use Rattle.mr_two_orders.specs.Pairs.{partner}
+use Rattle.mr_two_orders.proofs.Common.{codes, last_behind, partner}
 use Rattle.mr_two_orders.specs.Standing.{machine_why}
 use Rattle.mr_two_orders.proofs.standing.push_rust_alone.Goals as goal
 

@@ -1,11 +1,4 @@
-use Rattle.std.proofs.Common.{◌≡◌, ◌++◌, ℕ, List, subst, sym}
-use Rattle.std.specs.Prelude.{OnOk}
-use Rattle.mr_event.specs.declared.footprint.Pair.{Pair}
-use Rattle.mr_rust_order.specs.Tests.{rust_races}
-use Rattle.mr_listing.specs.Races.{group_line}
-use Rattle.mr_listing.specs.Seen.{seen}
-use Rattle.mr_listing.proofs.Appended.{last_behind}
-use Rattle.mr_two_orders.specs.Pairs.{IsRising}
+use Rattle.mr_two_orders.proofs.Common.{◌≡◌, ◌++◌, ℕ, List, subst, sym, OnOk, Pair, rust_races, group_line, seen, last_behind, IsRising}
 use Rattle.mr_two_orders.specs.Standing.{machine_line}
 use Rattle.mr_two_orders.proofs.AloneLaws.{list_is, told_alone, told_with}
 use Rattle.mr_two_orders.proofs.PairLaws.{rust_rises}

@@ -1,6 +1,4 @@
-use Rattle.std.specs.Prelude.{◌≡◌, ◌++◌, flat_map, take}
-use Rattle.mr_listing.specs.Seen.{seen}
-use Rattle.mr_two_orders.specs.Texts.{machine_text}
+use Rattle.mr_two_orders.proofs.Common.{◌≡◌, ◌++◌, flat_map, take, seen, machine_text}
 use Rattle.mr_two_orders.proofs.text.push_machine_groups.Given as goal
 
 -- the groups before this one are written, where they are alone

@@ -1,10 +1,5 @@
-use Rattle.std.proofs.Common.{◌≡◌, ◌++◌, ℕ, subst}
-use Rattle.std.specs.Prelude.{OnOk}
-use Rattle.mr_listing.specs.Races.{group_line}
-use Rattle.mr_listing.specs.Seen.{seen}
-use Rattle.mr_listing.proofs.Appended.{last_behind}
+use Rattle.mr_two_orders.proofs.Common.{◌≡◌, ◌++◌, ℕ, subst, OnOk, group_line, seen, last_behind, count_in}
 use Rattle.mr_two_orders.specs.Standing.{rust_line}
-use Rattle.mr_two_orders.specs.Texts.{count_in}
 use Rattle.mr_two_orders.proofs.text.push_rust_group.Goals as goal
 
 pub returns : goal.returns

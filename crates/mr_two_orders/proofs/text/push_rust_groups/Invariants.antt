@@ -1,5 +1,4 @@
-use Rattle.std.specs.Prelude.{◌≡◌, ◌++◌, flat_map, take}
-use Rattle.mr_listing.specs.Seen.{seen}
+use Rattle.mr_two_orders.proofs.Common.{◌≡◌, ◌++◌, flat_map, take, seen}
 use Rattle.mr_two_orders.specs.Texts.{rust_text}
 use Rattle.mr_two_orders.proofs.text.push_rust_groups.Given as goal
 

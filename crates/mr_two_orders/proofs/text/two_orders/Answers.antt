@@ -1,10 +1,5 @@
-use Rattle.std.proofs.Common.{◌≡◌, ◌∙◌, ◌++◌, ℕ, ap, ap₂, List, subst, sym}
-use Rattle.mr_event.specs.declared.footprint.Pair.{Pair}
-use Rattle.mr_listing.specs.declared.pairs.Group.{Group}
-use Rattle.mr_listing.specs.Races.{ranked}
-use Rattle.mr_listing.specs.Seen.{Seen, seen}
-use Rattle.mr_two_orders.specs.Pairs.{IsRising}
-use Rattle.mr_two_orders.specs.Texts.{by_rust, groups_text}
+use Rattle.mr_two_orders.proofs.Common.{◌≡◌, ◌∙◌, ◌++◌, ℕ, ap, ap₂, List, subst, sym, Pair, Group, ranked, Seen, seen, IsRising, by_rust}
+use Rattle.mr_two_orders.specs.Texts.{groups_text}
 use Rattle.mr_two_orders.proofs.PairLaws.{predicted_rises}
 use Rattle.mr_two_orders.proofs.text.two_orders.Goals as goal
 

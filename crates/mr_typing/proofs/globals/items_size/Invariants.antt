@@ -1,4 +1,5 @@
-use Rattle.std.proofs.Common.{◌≡◌, ◌+◌, ◌*◌, ◌^◌, ◌≤◌, drop}
+use Rattle.mr_typing.proofs.Common.{◌≡◌, ◌*◌, ◌^◌, drop}
+use Rattle.std.proofs.Common.{◌+◌, ◌≤◌}
 use Rattle.mr_typing.specs.Broken.{items_size}
 use Rattle.mr_typing.proofs.globals.items_size.Given as goal
 

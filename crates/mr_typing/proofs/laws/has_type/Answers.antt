@@ -1,6 +1,4 @@
-use Rattle.std.proofs.Common.{refl}
-use Rattle.mr_ast.specs.Shaped.{named_in}
-use Rattle.mr_typing.specs.Broken.{surroundings}
+use Rattle.mr_typing.proofs.Common.{refl, named_in, surroundings}
 use Rattle.mr_typing.proofs.TypedLaws.{typed_value}
 use Rattle.mr_typing.proofs.laws.has_type.Goals as goal
 

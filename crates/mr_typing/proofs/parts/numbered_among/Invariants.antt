@@ -1,5 +1,4 @@
-use Rattle.std.proofs.Common.{◌≡◌, drop}
-use Rattle.mr_typing.specs.Types.{among}
+use Rattle.mr_typing.proofs.Common.{◌≡◌, drop, among}
 use Rattle.mr_typing.proofs.parts.numbered_among.Given as goal
 
 abbrev pub invariant-loop-variant : goal.invariant-loop-variant

@@ -1,17 +1,5 @@
-use Rattle.std.proofs.Common.{ℕ, subst, ◌≡◌, ◌+◌, ◌-◌, ◌*◌, ◌≤◌, ◌<◌, ◌++◌, true, List, drop, length, sym, ap, ◌∙◌, arith}
-use Rattle.std.specs.Prelude.{option_map}
-use Rattle.mr_ast.specs.declared.types.Ty.{Ty}
-use Rattle.mr_ast.specs.declared.types.Variant.{Variant}
-use Rattle.mr_ast.specs.Weight.{weight_of, fields_weight}
+use Rattle.mr_value.proofs.Common.{ℕ, subst, ◌≡◌, ◌+◌, ◌-◌, ◌*◌, ◌≤◌, ◌<◌, ◌++◌, true, List, drop, length, sym, ap, ◌∙◌, arith, option_map, Ty, Variant, weight_of, fields_weight, size_of, is_ok, are_ok, are_chunks_ok, are_variants_ok, ok_tuple, ok_array, ok_union, ok_enum, size_tuple, size_array, size_enum, bytes_of_pieces, Val, part, decoded, read_fields, elements_in}
 use Rattle.mr_ast.proofs.WeightLaws.{weight_tuple, weight_field}
-use Rattle.mr_layout.specs.Sizes.{size_of}
-use Rattle.mr_layout.specs.Parts.{is_ok, are_ok, are_chunks_ok, are_variants_ok}
-use Rattle.mr_layout.proofs.OkTests.{ok_tuple, ok_array, ok_union, ok_enum}
-use Rattle.mr_layout.proofs.SizeLaws.{size_tuple, size_array, size_enum}
-use Rattle.mr_runs.specs.Pieces.{bytes_of_pieces}
-use Rattle.mr_value.specs.declared.val.Val.{Val}
-use Rattle.mr_value.specs.Numbers.{part}
-use Rattle.mr_value.specs.Decode.{decoded, read_fields, elements_in}
 use Rattle.mr_value.proofs.DecodeSteps.{next_field, next_variant, fields_next, elements_next, element_inside, elements_end, after_some, after_none}
 use Rattle.mr_value.proofs.Weights.{weight_array, weight_enum, weight_variant, variants_weight}
 use Rattle.mr_value.proofs.decoding.+decode.Goals as goal

@@ -1,11 +1,4 @@
-use Rattle.std.proofs.Common.{◌≡◌, ◌++◌, ◌+◌, ◌-◌, ◌*◌, true, drop}
-use Rattle.std.specs.Prelude.{option_map}
-use Rattle.mr_ast.specs.Weight.{weight_of, fields_weight}
-use Rattle.mr_layout.specs.Parts.{are_ok, are_variants_ok}
-use Rattle.mr_layout.specs.Sizes.{size_of}
-use Rattle.mr_runs.specs.Pieces.{bytes_of_pieces}
-use Rattle.mr_value.specs.Numbers.{part}
-use Rattle.mr_value.specs.Decode.{decoded, read_fields, read_variant, elements_in}
+use Rattle.mr_value.proofs.Common.{◌≡◌, ◌++◌, ◌+◌, ◌-◌, ◌*◌, true, drop, option_map, weight_of, fields_weight, are_ok, are_variants_ok, size_of, bytes_of_pieces, part, decoded, read_fields, read_variant, elements_in}
 use Rattle.mr_value.proofs.Weights.{variants_weight}
 use Rattle.mr_value.proofs.decoding.+decode.Given as goal
 

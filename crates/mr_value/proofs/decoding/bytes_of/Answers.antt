@@ -1,9 +1,5 @@
-use Rattle.std.proofs.Common.{◌≡◌, ℕ, ◌^◌, Bool, true, false, Some, None, sym, ◌∙◌, arith}
-use Rattle.std.proofs.lemmas.Bool.Decides.{nat_tests}
-use Rattle.std.specs.Prelude.{nat_lt, if◌then◌else◌}
-use Rattle.mr_layout.specs.Sizes.{size_of}
+use Rattle.mr_value.proofs.Common.{◌≡◌, ℕ, ◌^◌, Bool, true, false, Some, None, sym, ◌∙◌, arith, nat_tests, nat_lt, if◌then◌else◌, size_of, ok_of}
 use Rattle.mr_layout.proofs.Bounds.{type_ok_small}
-use Rattle.mr_layout.proofs.OkTests.{ok_of}
 use Rattle.mr_value.proofs.decoding.bytes_of.Goals as goal
 
 not_none : (small : Bool) (n : ℕ) → small ≡ true → None ≡ (if small then Some n else None) → ⊥

@@ -1,6 +1,4 @@
-use Rattle.std.proofs.Common.{◌++◌, ◌∷◌, [], sym, ap, ◌∙◌, append_assoc}
-use Rattle.mr_runs.specs.Pieces.{bytes_of_pieces}
-use Rattle.mr_value.specs.Numbers.{Bytes, part}
+use Rattle.mr_value.proofs.Common.{◌++◌, ◌∷◌, [], sym, ap, ◌∙◌, append_assoc, bytes_of_pieces, Bytes, part}
 use Rattle.mr_value.proofs.PartLaws.{part_push}
 use Rattle.mr_value.proofs.decoding.copy_range.Goals as goal
 

@@ -1,6 +1,4 @@
-use Rattle.std.proofs.Common.{◌≡◌, ◌++◌}
-use Rattle.mr_runs.specs.Pieces.{bytes_of_pieces}
-use Rattle.mr_value.specs.Numbers.{part}
+use Rattle.mr_value.proofs.Common.{◌≡◌, ◌++◌, bytes_of_pieces, part}
 use Rattle.mr_value.proofs.decoding.copy_range.Given as goal
 
 abbrev pub invariant-loop-i : goal.invariant-loop-i

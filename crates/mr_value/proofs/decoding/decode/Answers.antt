@@ -1,13 +1,5 @@
-use Rattle.std.proofs.Common.{◌≡◌, ap, ◌∙◌}
+use Rattle.mr_value.proofs.Common.{◌≡◌, ap, ◌∙◌, Option, true, IfSome, IfNone, size_of, is_ok_of, bytes_of_pieces, Val, decoded, Means, part, has_shape}
 use Rattle.std.proofs.lemmas.Result.{IfOk-weaker}
-use Rattle.std.specs.Prelude.{Option, true, IfSome, IfNone}
-use Rattle.mr_layout.specs.Sizes.{size_of}
-use Rattle.mr_layout.proofs.OkTests.{is_ok_of}
-use Rattle.mr_runs.specs.Pieces.{bytes_of_pieces}
-use Rattle.mr_value.specs.declared.val.Val.{Val}
-use Rattle.mr_value.specs.Decode.{decoded, Means}
-use Rattle.mr_value.specs.Numbers.{part}
-use Rattle.mr_value.specs.Shape.{has_shape}
 use Rattle.mr_value.proofs.Meanings.{whole_part, some_means, none_means, some_shape}
 use Rattle.mr_value.proofs.decoding.decode.Goals as goal
 

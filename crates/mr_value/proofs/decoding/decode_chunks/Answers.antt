@@ -1,5 +1,4 @@
-use Rattle.std.proofs.Common.{◌∙◌, arith}
-use Rattle.mr_runs.specs.Pieces.{bytes_of_pieces}
+use Rattle.mr_value.proofs.Common.{◌∙◌, arith, bytes_of_pieces}
 use Rattle.mr_value.proofs.DecodeSteps.{next_chunk, chunks_next}
 use Rattle.mr_value.proofs.decoding.decode_chunks.Goals as goal
 

@@ -1,8 +1,4 @@
-use Rattle.std.proofs.Common.{◌≡◌, ◌++◌, true, drop}
-use Rattle.mr_layout.specs.Parts.{are_chunks_ok}
-use Rattle.mr_runs.specs.Pieces.{bytes_of_pieces}
-use Rattle.mr_value.specs.Numbers.{part}
-use Rattle.mr_value.specs.Decode.{chunks_in}
+use Rattle.mr_value.proofs.Common.{◌≡◌, ◌++◌, true, drop, are_chunks_ok, bytes_of_pieces, part, chunks_in}
 use Rattle.mr_value.proofs.decoding.decode_chunks.Given as goal
 
 abbrev pub invariant-loop-chunk : goal.invariant-loop-chunk

@@ -1,23 +1,7 @@
-use Rattle.std.proofs.Common.{ℕ, true, subst, ◌≡◌, ◌+◌, ◌≤◌, ◌<◌, ◌++◌, List, [], drop, get_or, length, sym, ap, ◌∙◌, arith}
-use Rattle.std.specs.Prelude.{◌==◌}
-use Rattle.std.proofs.lemmas.Bool.{and_parts}
-use Rattle.mr_ast.specs.declared.types.Ty.{Ty}
-use Rattle.mr_ast.specs.declared.types.Ty.TheVariants as ty
-use Rattle.mr_ast.specs.declared.types.Variant.{Variant}
-use Rattle.mr_ast.specs.Weight.{weight_of, fields_weight}
+use Rattle.mr_value.proofs.Common.{ℕ, true, subst, ◌≡◌, ◌+◌, ◌≤◌, ◌<◌, ◌++◌, List, [], drop, get_or, length, sym, ap, ◌∙◌, arith, ◌==◌, and_parts, Ty, Variant, weight_of, fields_weight, same_num, are_all_tags, size_of, is_ok, are_ok, are_chunks_ok, are_variants_ok, ok_of, ok_tuple, ok_array, ok_union, ok_enum, with_range_replaced, length-with_range_replaced, Val, Bytes, encoding_of, write_fields, chunks_size, elements_pass, has_shape, fields_have_shape, variant_has_shape, eq_from}
 use Rattle.mr_ast.proofs.WeightLaws.{weight_tuple, weight_field}
-use Rattle.mr_layout.specs.EnumRules.{same_num, are_all_tags}
-use Rattle.mr_layout.specs.Sizes.{size_of}
-use Rattle.mr_layout.specs.Parts.{is_ok, are_ok, are_chunks_ok, are_variants_ok}
-use Rattle.mr_layout.proofs.OkTests.{ok_of, ok_tuple, ok_array, ok_union, ok_enum}
-use Rattle.mr_runs.specs.Ranges.{with_range_replaced}
-use Rattle.mr_runs.proofs.RangeLaws.{length-with_range_replaced}
-use Rattle.mr_value.specs.declared.val.Val.{Val}
+use Rattle.mr_ast.specs.declared.types.Ty.TheVariants as ty
 use Rattle.mr_value.specs.declared.val.Val.TheVariants as val
-use Rattle.mr_value.specs.Numbers.{Bytes}
-use Rattle.mr_value.specs.Encode.{encoding_of, write_fields}
-use Rattle.mr_value.specs.Shape.{chunks_size, elements_pass, has_shape, fields_have_shape, variant_has_shape}
-use Rattle.mr_base.proofs.Comparisons.{eq_from}
 use Rattle.mr_value.proofs.DecodeSteps.{next_field, next_variant}
 use Rattle.mr_value.proofs.EncodeLength.{length-encoding_of}
 use Rattle.mr_value.proofs.EncodeSteps.{same_length, next_value, fields_written, variant_shaped_here, equal_is}

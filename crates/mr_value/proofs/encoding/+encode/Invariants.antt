@@ -1,9 +1,4 @@
-use Rattle.std.proofs.Common.{◌≡◌, ◌++◌, ◌+◌, ◌*◌, true, drop, length}
-use Rattle.mr_ast.specs.Weight.{weight_of, fields_weight}
-use Rattle.mr_layout.specs.EnumRules.{are_all_tags}
-use Rattle.mr_layout.specs.Parts.{are_ok, are_variants_ok}
-use Rattle.mr_value.specs.Encode.{BeginsWith, blank, element_bytes, encoding_of, write_fields, write_variant}
-use Rattle.mr_value.specs.Shape.{elements_pass, has_shape, fields_have_shape, variant_has_shape}
+use Rattle.mr_value.proofs.Common.{◌≡◌, ◌++◌, ◌+◌, ◌*◌, true, drop, length, weight_of, fields_weight, are_all_tags, are_ok, are_variants_ok, BeginsWith, blank, element_bytes, encoding_of, write_fields, write_variant, elements_pass, has_shape, fields_have_shape, variant_has_shape}
 use Rattle.mr_value.proofs.Weights.{variants_weight}
 use Rattle.mr_value.proofs.encoding.+encode.Given as goal
 

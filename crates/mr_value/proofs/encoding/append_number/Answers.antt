@@ -1,7 +1,4 @@
-use Rattle.std.proofs.Common.{◌≡◌, ◌-◌, ◌%◌, ◌++◌, ◌∷◌, [], sym, ap, ◌∙◌, arith}
-use Rattle.mr_base.specs.declared.byte.AbstractByte.TheVariants.{Init}
-use Rattle.mr_runs.specs.Numbers.{with_provenance}
-use Rattle.mr_value.specs.Numbers.{little_endian}
+use Rattle.mr_value.proofs.Common.{◌≡◌, ◌-◌, ◌%◌, ◌++◌, ◌∷◌, [], sym, ap, ◌∙◌, arith, Init, with_provenance, little_endian}
 use Rattle.mr_value.proofs.EncodeSteps.{begins_with_itself, begins_with_more, number_next, number_end, on_err}
 use Rattle.mr_value.proofs.encoding.append_number.Goals as goal
 

@@ -1,7 +1,4 @@
-use Rattle.std.proofs.Common.{◌≡◌, ◌-◌, ◌++◌}
-use Rattle.mr_runs.specs.Numbers.{with_provenance}
-use Rattle.mr_value.specs.Numbers.{little_endian}
-use Rattle.mr_value.specs.Encode.{BeginsWith}
+use Rattle.mr_value.proofs.Common.{◌≡◌, ◌-◌, ◌++◌, with_provenance, little_endian, BeginsWith}
 use Rattle.mr_value.proofs.encoding.append_number.Given as goal
 
 abbrev pub invariant-loop-i : goal.invariant-loop-i

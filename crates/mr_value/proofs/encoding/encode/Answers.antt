@@ -1,4 +1,4 @@
-use Rattle.mr_layout.proofs.OkTests.{is_ok_of}
+use Rattle.mr_value.proofs.Common.{is_ok_of}
 use Rattle.mr_value.proofs.encoding.encode.Goals as goal
 
 pub append-answer-requires-clause-ok : goal.append-answer-requires-clause-ok

@@ -1,7 +1,5 @@
-use Rattle.std.proofs.Common.{◌≡◌, ◌+◌, ◌∙◌, refl, sym, ap, arith, get_or, set, take, length, length-take}
-use Rattle.std.proofs.lemmas.List.{take_more}
-use Rattle.mr_base.specs.declared.byte.AbstractByte.TheVariants.{Uninit}
-use Rattle.mr_runs.specs.Ranges.{with_range_replaced}
+use Rattle.mr_value.proofs.Common.{◌≡◌, ◌+◌, ◌∙◌, refl, sym, ap, arith, get_or, take, length, length-take, take_more, Uninit, with_range_replaced}
+use Rattle.std.proofs.Common.{set}
 use Rattle.mr_runs.proofs.RangeLaws.{range_grows}
 use Rattle.mr_value.proofs.encoding.replace.Goals as goal
 

@@ -1,5 +1,4 @@
-use Rattle.std.proofs.Common.{◌≡◌, take}
-use Rattle.mr_runs.specs.Ranges.{with_range_replaced}
+use Rattle.mr_value.proofs.Common.{◌≡◌, take, with_range_replaced}
 use Rattle.mr_value.proofs.encoding.replace.Given as goal
 
 abbrev pub invariant-loop-i : goal.invariant-loop-i

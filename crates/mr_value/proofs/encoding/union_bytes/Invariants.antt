@@ -1,7 +1,4 @@
-use Rattle.std.proofs.Common.{◌≡◌, true, drop, length}
-use Rattle.mr_layout.specs.Parts.{are_chunks_ok}
-use Rattle.mr_value.specs.Encode.{blank, with_chunks}
-use Rattle.mr_value.specs.Shape.{chunks_size}
+use Rattle.mr_value.proofs.Common.{◌≡◌, true, drop, length, are_chunks_ok, blank, with_chunks, chunks_size}
 use Rattle.mr_value.proofs.encoding.union_bytes.Given as goal
 
 abbrev pub invariant-loop-chunk : goal.invariant-loop-chunk

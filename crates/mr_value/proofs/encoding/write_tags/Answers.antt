@@ -1,13 +1,5 @@
-use Rattle.std.proofs.Common.{◌≡◌, ◌+◌, ◌≤◌, ◌++◌, false, None, drop, get_or, length, sym, ap, ◌∙◌, arith}
+use Rattle.mr_value.proofs.Common.{◌≡◌, ◌+◌, ◌≤◌, ◌++◌, false, None, drop, get_or, length, sym, ap, ◌∙◌, arith, Tag, are_tags, int_size, with_range_replaced, length-with_range_replaced, with_provenance, tag_bytes, with_tags, Bytes, little_endian}
 use Rattle.mr_ast.specs.declared.types.IntType.TheVariants.{U8}
-use Rattle.mr_ast.specs.declared.types.Tag.{Tag}
-use Rattle.mr_layout.specs.EnumRules.{are_tags}
-use Rattle.mr_ast.specs.Integers.{int_size}
-use Rattle.mr_runs.specs.Ranges.{with_range_replaced}
-use Rattle.mr_runs.proofs.RangeLaws.{length-with_range_replaced}
-use Rattle.mr_runs.specs.Numbers.{with_provenance}
-use Rattle.mr_value.specs.Encode.{tag_bytes, with_tags}
-use Rattle.mr_value.specs.Numbers.{Bytes, little_endian}
 use Rattle.mr_value.proofs.EncodeLength.{length-tag_bytes}
 use Rattle.mr_value.proofs.EncodeSteps.{next_tag, tags_written}
 use Rattle.mr_value.proofs.encoding.write_tags.Goals as goal

@@ -1,7 +1,4 @@
-use Rattle.std.proofs.Common.{◌≡◌, true, drop, length}
-use Rattle.mr_ast.specs.declared.types.Ty.{Ty}
-use Rattle.mr_layout.specs.EnumRules.{are_tags}
-use Rattle.mr_value.specs.Encode.{with_tags}
+use Rattle.mr_value.proofs.Common.{◌≡◌, true, drop, length, Ty, are_tags, with_tags}
 use Rattle.mr_value.proofs.encoding.write_tags.Given as goal
 
 abbrev pub invariant-loop-tag : goal.invariant-loop-tag

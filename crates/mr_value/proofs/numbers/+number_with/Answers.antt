@@ -1,4 +1,4 @@
-use Rattle.std.proofs.Common.{◌≡◌, ℕ, ◌∙◌, ◌+◌, ◌-◌, ◌*◌, ◌^◌, ◌<◌, List, length, get_or, take, sym, ap, arith, length-take}
+use Rattle.mr_value.proofs.Common.{◌≡◌, ℕ, ◌∙◌, ◌+◌, ◌-◌, ◌*◌, ◌^◌, ◌<◌, List, length, get_or, take, sym, ap, arith, length-take}
 use Rattle.mr_value.specs.Spelled.{initial_number}
 use Rattle.mr_value.proofs.Digits.{byte_fits}
 use Rattle.mr_value.proofs.SpelledLaws.{ends_with, initial_last, wider}

@@ -1,4 +1,4 @@
-use Rattle.std.proofs.Common.{length}
+use Rattle.mr_value.proofs.Common.{length}
 use Rattle.mr_value.proofs.numbers.+number_with.Given as goal
 
 abbrev pub decreases-number_with : goal.decreases-number_with

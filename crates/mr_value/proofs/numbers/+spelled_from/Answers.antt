@@ -1,7 +1,5 @@
-use Rattle.std.proofs.Common.{◌≡◌, ◌∙◌, ◌+◌, ◌-◌, List, Some, length, drop, sym, ap, arith}
-use Rattle.std.specs.Prelude.{slice_get}
+use Rattle.mr_value.proofs.Common.{◌≡◌, ◌∙◌, ◌+◌, ◌-◌, List, Some, length, drop, sym, ap, arith, slice_get, SeenPiece, InitPiece, bytes_of_pieces}
 use Rattle.std.proofs.lemmas.Option.{slice_get_within}
-use Rattle.mr_runs.specs.Pieces.{SeenPiece, InitPiece, bytes_of_pieces}
 use Rattle.mr_runs.specs.Seen.{seen_piece}
 use Rattle.mr_value.proofs.SpelledLaws.{fewer_pieces, len_from, number_fits, pieces_past_last, spelled_empty, spells_more, spells_none, spells_uninit, wider}
 use Rattle.mr_value.proofs.numbers.+spelled_from.Goals as goal

@@ -1,4 +1,4 @@
-use Rattle.std.proofs.Common.{◌-◌, length}
+use Rattle.mr_value.proofs.Common.{◌-◌, length}
 use Rattle.mr_value.proofs.numbers.+spelled_from.Given as goal
 
 abbrev pub decreases-spelled_from : goal.decreases-spelled_from

@@ -1,5 +1,4 @@
-use Rattle.std.proofs.Common.{◌≡◌, ◌*◌, ◌^◌, ◌<◌, ℕ, length, drop, ap, subst, arith, length-take, length-drop}
-use Rattle.mr_runs.specs.Pieces.{bytes_of_pieces}
+use Rattle.mr_value.proofs.Common.{◌≡◌, ◌*◌, ◌^◌, ◌<◌, ℕ, length, drop, ap, subst, arith, length-take, length-drop, bytes_of_pieces}
 use Rattle.mr_value.proofs.SpelledLaws.{number_fits}
 use Rattle.mr_value.proofs.numbers.number_at.Goals as goal
 

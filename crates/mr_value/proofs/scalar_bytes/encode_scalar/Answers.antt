@@ -1,5 +1,4 @@
-use Rattle.std.proofs.Common.{sym, ap, ◌∙◌}
-use Rattle.mr_value.specs.Shape.{has_shape}
+use Rattle.mr_value.proofs.Common.{sym, ap, ◌∙◌, has_shape}
 use Rattle.mr_value.proofs.ShapeLaws.{shape_int, shape_bool, shape_raw, shape_fn_ptr, shape_ref}
 use Rattle.mr_value.proofs.scalar_bytes.encode_scalar.Goals as goal
 

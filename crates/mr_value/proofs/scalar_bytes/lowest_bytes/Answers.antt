@@ -1,6 +1,5 @@
-use Rattle.std.proofs.Common.{◌≡◌, ℕ, ◌∙◌, ◌+◌, ◌-◌, ◌/◌, ◌%◌, ◌++◌, ◌∷◌, [], List, take, suc, sym, ap, arith, append_assoc}
+use Rattle.mr_value.proofs.Common.{◌≡◌, ℕ, ◌∙◌, ◌+◌, ◌-◌, ◌/◌, ◌%◌, ◌++◌, ◌∷◌, [], List, take, suc, sym, ap, arith, append_assoc, little_endian}
 use Rattle.std.proofs.lemmas.List.{length-set, take_more_set}
-use Rattle.mr_value.specs.Numbers.{little_endian}
 use Rattle.mr_value.proofs.scalar_bytes.lowest_bytes.Goals as goal
 
 pub loop-i-preserved : goal.loop-i-preserved

@@ -1,5 +1,4 @@
-use Rattle.std.proofs.Common.{◌≡◌, ◌-◌, ◌++◌, length, take}
-use Rattle.mr_value.specs.Numbers.{little_endian}
+use Rattle.mr_value.proofs.Common.{◌≡◌, ◌-◌, ◌++◌, length, take, little_endian}
 use Rattle.mr_value.proofs.scalar_bytes.lowest_bytes.Given as goal
 
 abbrev pub invariant-loop-i : goal.invariant-loop-i

@@ -1,8 +1,4 @@
-use Rattle.std.proofs.Common.{ap, ◌∙◌}
-use Rattle.mr_layout.specs.Sizes.{size_of}
-use Rattle.mr_layout.proofs.OkTests.{is_ok_of}
-use Rattle.mr_runs.specs.Pieces.{bytes_of_pieces}
-use Rattle.mr_value.specs.Decode.{decoded}
+use Rattle.mr_value.proofs.Common.{ap, ◌∙◌, size_of, is_ok_of, bytes_of_pieces, decoded}
 use Rattle.mr_value.proofs.Meanings.{whole_part, some_means, none_means, some_shape}
 use Rattle.mr_value.proofs.scalars.decode_scalar.Goals as goal
 

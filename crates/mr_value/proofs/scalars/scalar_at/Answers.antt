@@ -1,5 +1,4 @@
-use Rattle.std.proofs.Common.{sym, ap, ◌∙◌}
-use Rattle.mr_layout.specs.Parts.{is_ok}
+use Rattle.mr_value.proofs.Common.{sym, ap, ◌∙◌, is_ok}
 use Rattle.mr_value.proofs.RefParts.{ref_align}
 use Rattle.mr_value.proofs.scalars.scalar_at.Goals as goal
 

@@ -1,12 +1,4 @@
-use Rattle.std.proofs.Common.{◌≡◌, ◌+◌, ◌<◌, true, List, Some, None, subst, sym, ap, ◌∙◌, arith}
-use Rattle.std.specs.Prelude.{option_and_then}
-use Rattle.mr_ast.specs.declared.types.Num.{Num}
-use Rattle.mr_ast.specs.declared.types.Tree.{Tree}
-use Rattle.mr_ast.specs.Integers.{int_size}
-use Rattle.mr_layout.specs.EnumRules.{is_tree, are_tree_cases}
-use Rattle.mr_runs.specs.Pieces.{bytes_of_pieces}
-use Rattle.mr_value.specs.Numbers.{part, number_of}
-use Rattle.mr_value.specs.Discriminants.{number_of_bits, walk, walk_case}
+use Rattle.mr_value.proofs.Common.{◌≡◌, ◌+◌, ◌<◌, true, List, Some, None, subst, sym, ap, ◌∙◌, arith, option_and_then, Num, Tree, int_size, is_tree, are_tree_cases, bytes_of_pieces, part, number_of, number_of_bits, walk, walk_case}
 use Rattle.mr_value.proofs.WalkSteps.{branch_parts, case_ok, branch_reads}
 use Rattle.mr_value.proofs.Weights.{tree_weight, cases_weight, weight_branch, weight_case}
 use Rattle.mr_value.proofs.walking.+walk.Goals as goal

@@ -1,7 +1,4 @@
-use Rattle.std.proofs.Common.{◌≡◌, drop}
-use Rattle.mr_runs.specs.Pieces.{bytes_of_pieces}
-use Rattle.mr_value.specs.Numbers.{part}
-use Rattle.mr_value.specs.Discriminants.{walk, walk_case}
+use Rattle.mr_value.proofs.Common.{◌≡◌, drop, bytes_of_pieces, part, walk, walk_case}
 use Rattle.mr_value.proofs.Weights.{tree_weight}
 use Rattle.mr_value.proofs.walking.+walk.Given as goal
 

@@ -1,6 +1,4 @@
-use Rattle.std.proofs.Common.{sym, subst}
-use Rattle.mr_ast.specs.declared.expr.Value.{Value}
-use Rattle.mr_wf.specs.Listed.{AlikeValues}
+use Rattle.mr_wf.proofs.Common.{sym, subst, Value, AlikeValues}
 use Rattle.mr_wf.proofs.ListedLaws.{loads_alike}
 use Rattle.mr_wf.proofs.alike.are_alike.Goals as goal
 

@@ -1,6 +1,4 @@
-use Rattle.std.proofs.Common.{sym, subst}
-use Rattle.mr_ast.specs.declared.expr.Value.{Value}
-use Rattle.mr_wf.specs.Listed.{AlikeValue}
+use Rattle.mr_wf.proofs.Common.{sym, subst, Value, AlikeValue}
 use Rattle.mr_wf.proofs.ListedLaws.{load_alike}
 use Rattle.mr_wf.proofs.alike.is_alike.Goals as goal
 

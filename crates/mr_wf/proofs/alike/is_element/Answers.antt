@@ -1,4 +1,4 @@
-use Rattle.mr_typing.specs.Known.{ty_of}
+use Rattle.mr_wf.proofs.Common.{ty_of}
 use Rattle.mr_wf.proofs.ListedLaws.{element_alike}
 use Rattle.mr_wf.proofs.alike.is_element.Goals as goal
 

@@ -1,8 +1,6 @@
-use Rattle.std.proofs.Common.{◌≡◌, true, map, ◌∙◌, arith, rules, tests}
-use Rattle.mr_typing.specs.Known.{ty_of}
+use Rattle.mr_wf.proofs.Common.{◌≡◌, true, map, ◌∙◌, arith, ty_of, surroundings_of, HasType}
+use Rattle.std.proofs.Common.{rules, tests}
 use Rattle.mr_typing.specs.SameTypes.{same_type}
-use Rattle.mr_wf.specs.Gives.{surroundings_of}
-use Rattle.mr_wf.specs.Listed.{HasType}
 use Rattle.mr_wf.proofs.ListedLaws.{elements_next, has_element, has_type_at, known_at}
 use Rattle.mr_wf.proofs.alike.match_element.Goals as goal
 

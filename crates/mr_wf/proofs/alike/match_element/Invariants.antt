@@ -1,8 +1,4 @@
-use Rattle.std.proofs.Common.{◌≡◌, drop, map}
-use Rattle.mr_typing.specs.Known.{ty_of}
-use Rattle.mr_typing.specs.Operands.{match_element}
-use Rattle.mr_wf.specs.Gives.{surroundings_of}
-use Rattle.mr_wf.specs.Listed.{HasType}
+use Rattle.mr_wf.proofs.Common.{◌≡◌, drop, map, ty_of, match_element, surroundings_of, HasType}
 use Rattle.mr_wf.proofs.alike.match_element.Given as goal
 
 abbrev pub invariant-loop-i : goal.invariant-loop-i

@@ -1,5 +1,4 @@
-use Rattle.std.proofs.Common.{sym}
-use Rattle.mr_wf.specs.Gives.{surroundings_of}
+use Rattle.mr_wf.proofs.Common.{sym, surroundings_of}
 use Rattle.mr_wf.proofs.ListedLaws.{variant_told}
 use Rattle.mr_wf.proofs.alike.variant_at.Goals as goal
 

@@ -1,4 +1,5 @@
-use Rattle.std.proofs.Common.{Ok, ◌-◌, ◌<◌, length, Bool, ap, sym, arith}
+use Rattle.mr_wf.proofs.Common.{Ok, ◌<◌, length, Bool, ap, sym, arith}
+use Rattle.std.proofs.Common.{◌-◌}
 use Rattle.mr_wf.proofs.SwitchLaws.{case_unfit}
 use Rattle.mr_wf.proofs.blocks.are_int_cases.Goals as goal
 

@@ -1,5 +1,4 @@
-use Rattle.std.proofs.Common.{◌≡◌, drop, true}
-use Rattle.mr_ast.specs.declared.types.Num.{Num}
+use Rattle.mr_wf.proofs.Common.{◌≡◌, drop, true, Num}
 use Rattle.mr_layout.specs.EnumRules.{is_case}
 use Rattle.mr_typing.specs.Blocks.{are_int_cases}
 use Rattle.mr_wf.specs.Seen.{has}

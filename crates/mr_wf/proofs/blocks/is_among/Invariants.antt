@@ -1,7 +1,6 @@
-use Rattle.std.proofs.Common.{◌≡◌, drop}
+use Rattle.mr_wf.proofs.Common.{◌≡◌, drop, LocalName}
 use Rattle.std.specs.Prelude.{◌==◌}
 use Rattle.std.specs.List.{list_any}
-use Rattle.mr_ast.specs.declared.program.LocalName.{LocalName}
 use Rattle.mr_wf.proofs.blocks.is_among.Given as goal
 
 abbrev pub invariant-loop-name : goal.invariant-loop-name

@@ -1,5 +1,4 @@
-use Rattle.std.proofs.Common.{◌≡◌, drop}
-use Rattle.mr_wf.specs.JudgingPrograms.{judged_items}
+use Rattle.mr_wf.proofs.Common.{◌≡◌, drop, judged_items}
 use Rattle.mr_wf.proofs.globals.judged_items.Given as goal
 
 abbrev pub invariant-loop-item : goal.invariant-loop-item

@@ -1,5 +1,4 @@
-use Rattle.std.proofs.Common.{◌≡◌, take}
-use Rattle.mr_typing.specs.Broken.{sizes_of}
+use Rattle.mr_wf.proofs.Common.{◌≡◌, take, sizes_of}
 use Rattle.mr_wf.proofs.globals.sizes_of.Given as goal
 
 abbrev pub invariant-loop-global : goal.invariant-loop-global

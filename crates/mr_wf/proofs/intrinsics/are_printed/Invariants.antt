@@ -1,7 +1,5 @@
-use Rattle.std.proofs.Common.{◌≡◌, drop, map}
+use Rattle.mr_wf.proofs.Common.{◌≡◌, drop, map, ty_of, is_scalar_number}
 use Rattle.std.specs.List.{list_all}
-use Rattle.mr_typing.specs.Known.{ty_of}
-use Rattle.mr_typing.specs.Operands.{is_scalar_number}
 use Rattle.mr_wf.proofs.intrinsics.are_printed.Given as goal
 
 abbrev pub invariant-loop-t : goal.invariant-loop-t

@@ -1,6 +1,4 @@
-use Rattle.std.proofs.Common.{ℕ, sym, ap, ◌∙◌}
-use Rattle.std.specs.Prelude.{nat_le}
-use Rattle.mr_typing.specs.Known.{ty_of}
+use Rattle.mr_wf.proofs.Common.{ℕ, sym, ap, ◌∙◌, nat_le, ty_of}
 use Rattle.mr_wf.proofs.IntrinsicLaws.{atomic_told}
 use Rattle.mr_wf.proofs.intrinsics.is_atomic.Goals as goal
 

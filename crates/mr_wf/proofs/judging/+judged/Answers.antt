@@ -1,12 +1,6 @@
-use Rattle.std.proofs.Common.{◌≡◌, Ok, Err, map, sym, ap, subst, ◌∙◌, arith}
+use Rattle.mr_wf.proofs.Common.{◌≡◌, Ok, Err, map, sym, ap, subst, ◌∙◌, arith, err_from_is_err_and, Place, Value, ty_of, judged_values, GivesWhereTyped, surroundings_of}
 use Rattle.std.proofs.lemmas.List.{map-append}
-use Rattle.std.proofs.lemmas.Result.{err_from_is_err_and}
-use Rattle.mr_ast.specs.declared.expr.Place.{Place}
 use Rattle.mr_ast.specs.declared.expr.Place.TheVariants as place
-use Rattle.mr_ast.specs.declared.expr.Value.{Value}
-use Rattle.mr_typing.specs.Known.{ty_of}
-use Rattle.mr_typing.specs.Judging.{judged_values}
-use Rattle.mr_wf.specs.Gives.{GivesWhereTyped, surroundings_of}
 use Rattle.mr_wf.proofs.GivesLaws.{value_goes_on, value_stops, values_done, with_none}
 use Rattle.mr_wf.proofs.PositionLaws.{given_judged, given_local, index_stops, part_stops, part_told}
 use Rattle.mr_wf.proofs.judging.+judged.Goals as goal

@@ -1,7 +1,4 @@
-use Rattle.std.proofs.Common.{◌≡◌, drop, map}
-use Rattle.mr_typing.specs.Known.{ty_of}
-use Rattle.mr_typing.specs.Judging.{judged_values}
-use Rattle.mr_wf.specs.Gives.{surroundings_of}
+use Rattle.mr_wf.proofs.Common.{◌≡◌, drop, map, ty_of, judged_values, surroundings_of}
 use Rattle.mr_wf.proofs.GivesLaws.{with_types}
 use Rattle.mr_wf.proofs.judging.+judged.Given as goal
 

@@ -1,4 +1,4 @@
-use Rattle.mr_wf.specs.Listed.{AreClasses}
+use Rattle.mr_wf.proofs.Common.{AreClasses}
 use Rattle.mr_wf.proofs.listing.classes_of.Given as goal
 
 abbrev pub invariant-loop-at : goal.invariant-loop-at

@@ -1,4 +1,4 @@
-use Rattle.std.proofs.Common.{arith}
+use Rattle.mr_wf.proofs.Common.{arith}
 use Rattle.mr_wf.proofs.ListedLaws.{apart_from}
 use Rattle.mr_wf.proofs.listing.list_apart.Goals as goal
 

@@ -1,4 +1,4 @@
-use Rattle.mr_wf.specs.Listed.{IsWhole}
+use Rattle.mr_wf.proofs.Common.{IsWhole}
 use Rattle.mr_wf.proofs.listing.list_apart.Given as goal
 
 abbrev pub invariant-loop-variant : goal.invariant-loop-variant

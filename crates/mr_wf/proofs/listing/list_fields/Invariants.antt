@@ -1,4 +1,4 @@
-use Rattle.mr_wf.specs.Listed.{IsWhole}
+use Rattle.mr_wf.proofs.Common.{IsWhole}
 use Rattle.mr_wf.proofs.listing.list_fields.Given as goal
 
 abbrev pub invariant-loop-n : goal.invariant-loop-n

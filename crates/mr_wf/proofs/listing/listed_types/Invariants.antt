@@ -1,4 +1,4 @@
-use Rattle.mr_wf.specs.Listed.{AreListed}
+use Rattle.mr_wf.proofs.Common.{AreListed}
 use Rattle.mr_wf.proofs.listing.listed_types.Given as goal
 
 abbrev pub invariant-loop-whole : goal.invariant-loop-whole

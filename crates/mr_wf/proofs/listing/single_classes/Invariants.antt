@@ -1,4 +1,4 @@
-use Rattle.std.proofs.Common.{◌≡◌, length}
+use Rattle.mr_wf.proofs.Common.{◌≡◌, length}
 use Rattle.mr_wf.proofs.ListedLaws.{Own}
 use Rattle.mr_wf.proofs.listing.single_classes.Given as goal
 

@@ -1,4 +1,4 @@
-use Rattle.std.proofs.Common.{◌≡◌, map, take}
+use Rattle.mr_wf.proofs.Common.{◌≡◌, map, take}
 use Rattle.mr_layout.specs.Alike.{variant_key}
 use Rattle.mr_wf.proofs.listing.variant_keys.Given as goal
 

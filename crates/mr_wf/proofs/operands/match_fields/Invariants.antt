@@ -1,5 +1,4 @@
-use Rattle.std.proofs.Common.{◌≡◌, drop, map}
-use Rattle.mr_typing.specs.Known.{ty_of}
+use Rattle.mr_wf.proofs.Common.{◌≡◌, drop, map, ty_of}
 use Rattle.mr_typing.specs.Operands.{match_fields}
 use Rattle.mr_wf.proofs.operands.match_fields.Given as goal
 

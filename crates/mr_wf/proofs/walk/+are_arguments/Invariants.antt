@@ -1,4 +1,4 @@
-use Rattle.std.proofs.Common.{length}
+use Rattle.mr_wf.proofs.Common.{length}
 use Rattle.mr_wf.proofs.walk.+are_arguments.Given as goal
 
 abbrev pub decreases-are_arguments : goal.decreases-are_arguments

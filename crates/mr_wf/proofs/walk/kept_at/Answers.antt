@@ -1,8 +1,4 @@
-use Rattle.std.proofs.Common.{sym, subst}
-use Rattle.std.specs.Prelude.{None}
-use Rattle.mr_typing.specs.Judging.{kept}
-use Rattle.mr_wf.specs.JudgingPrograms.{placed}
-use Rattle.mr_wf.specs.Gives.{Walks}
+use Rattle.mr_wf.proofs.Common.{sym, subst, None, kept, placed, Walks}
 use Rattle.mr_wf.proofs.GivesLaws.{placed_walks}
 use Rattle.mr_wf.proofs.walk.kept_at.Goals as goal
 

@@ -1,8 +1,4 @@
-use Rattle.std.proofs.Common.{◌≤◌, ◌^◌, length, sym, subst, arith}
-use Rattle.std.proofs.lemmas.Result.{err_from_is_err_and}
-use Rattle.mr_ast.specs.declared.program.Block.{Block}
-use Rattle.mr_wf.specs.Gives.{surroundings_of}
-use Rattle.mr_wf.specs.JudgingPrograms.{each_walked, walked_block}
+use Rattle.mr_wf.proofs.Common.{◌≤◌, ◌^◌, length, sym, subst, arith, err_from_is_err_and, Block, surroundings_of, each_walked, walked_block}
 use Rattle.mr_wf.proofs.GivesLaws.{thing_goes_on, thing_stops, things_done}
 use Rattle.mr_wf.proofs.walk.walked_blocks.Goals as goal
 

@@ -1,6 +1,4 @@
-use Rattle.std.proofs.Common.{◌≡◌, drop}
-use Rattle.mr_wf.specs.Gives.{surroundings_of}
-use Rattle.mr_wf.specs.JudgingPrograms.{each_walked, walked_block}
+use Rattle.mr_wf.proofs.Common.{◌≡◌, drop, surroundings_of, each_walked, walked_block}
 use Rattle.mr_wf.proofs.walk.walked_blocks.Given as goal
 
 abbrev pub invariant-loop-k : goal.invariant-loop-k

@@ -1,6 +1,4 @@
-use Rattle.std.proofs.Common.{sym, subst, arith}
-use Rattle.std.proofs.lemmas.Result.{err_from_is_err_and}
-use Rattle.mr_wf.specs.JudgingPrograms.{IsShort, each_walked, walked_function}
+use Rattle.mr_wf.proofs.Common.{sym, subst, arith, err_from_is_err_and, IsShort, each_walked, walked_function}
 use Rattle.mr_wf.proofs.GivesLaws.{thing_goes_on, thing_stops, things_done}
 use Rattle.mr_wf.proofs.walk.walked_functions.Goals as goal
 

@@ -1,5 +1,4 @@
-use Rattle.std.proofs.Common.{◌≡◌, drop}
-use Rattle.mr_wf.specs.JudgingPrograms.{each_walked, walked_function}
+use Rattle.mr_wf.proofs.Common.{◌≡◌, drop, each_walked, walked_function}
 use Rattle.mr_wf.proofs.walk.walked_functions.Given as goal
 
 abbrev pub invariant-loop-n : goal.invariant-loop-n

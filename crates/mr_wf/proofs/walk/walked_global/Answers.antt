@@ -1,8 +1,5 @@
-use Rattle.std.proofs.Common.{sym, subst}
-use Rattle.std.specs.Prelude.{None}
+use Rattle.mr_wf.proofs.Common.{sym, subst, None, judged_global, placed, Walks}
 use Rattle.mr_typing.specs.declared.fault.Item.TheVariants.{Static}
-use Rattle.mr_wf.specs.JudgingPrograms.{judged_global, placed}
-use Rattle.mr_wf.specs.Gives.{Walks}
 use Rattle.mr_wf.proofs.GivesLaws.{placed_walks}
 use Rattle.mr_wf.proofs.walk.walked_global.Goals as goal
 

@@ -1,6 +1,4 @@
-use Rattle.std.proofs.Common.{arith}
-use Rattle.std.proofs.lemmas.Result.{err_from_is_err_and}
-use Rattle.mr_wf.specs.JudgingPrograms.{each_walked, walked_global}
+use Rattle.mr_wf.proofs.Common.{arith, err_from_is_err_and, each_walked, walked_global}
 use Rattle.mr_wf.proofs.GivesLaws.{thing_goes_on, thing_stops, things_done}
 use Rattle.mr_wf.proofs.walk.walked_globals.Goals as goal
 

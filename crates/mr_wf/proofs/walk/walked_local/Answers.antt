@@ -1,9 +1,5 @@
-use Rattle.std.proofs.Common.{sym, subst}
-use Rattle.std.specs.Prelude.{None}
+use Rattle.mr_wf.proofs.Common.{sym, subst, None, sound_type, placed, Walks}
 use Rattle.mr_typing.specs.declared.fault.Item.TheVariants.{Function as InFunction}
-use Rattle.mr_typing.specs.Judging.{sound_type}
-use Rattle.mr_wf.specs.JudgingPrograms.{placed}
-use Rattle.mr_wf.specs.Gives.{Walks}
 use Rattle.mr_wf.proofs.GivesLaws.{placed_walks}
 use Rattle.mr_wf.proofs.walk.walked_local.Goals as goal
 

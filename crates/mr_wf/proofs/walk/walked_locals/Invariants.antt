@@ -1,5 +1,4 @@
-use Rattle.std.proofs.Common.{◌≡◌, drop}
-use Rattle.mr_wf.specs.JudgingPrograms.{each_walked, walked_local}
+use Rattle.mr_wf.proofs.Common.{◌≡◌, drop, each_walked, walked_local}
 use Rattle.mr_wf.proofs.walk.walked_locals.Given as goal
 
 abbrev pub invariant-loop-place : goal.invariant-loop-place

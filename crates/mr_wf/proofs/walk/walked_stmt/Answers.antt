@@ -1,9 +1,5 @@
-use Rattle.std.proofs.Common.{sym, subst}
-use Rattle.std.specs.Prelude.{Some}
+use Rattle.mr_wf.proofs.Common.{sym, subst, Some, judged_stmt, placed, Walks, surroundings_of}
 use Rattle.mr_typing.specs.declared.fault.Item.TheVariants.{Function as InFunction}
-use Rattle.mr_typing.specs.JudgingBlocks.{judged_stmt}
-use Rattle.mr_wf.specs.JudgingPrograms.{placed}
-use Rattle.mr_wf.specs.Gives.{Walks, surroundings_of}
 use Rattle.mr_wf.proofs.GivesLaws.{placed_walks}
 use Rattle.mr_wf.proofs.walk.walked_stmt.Goals as goal
 

@@ -1,7 +1,4 @@
-use Rattle.std.proofs.Common.{arith}
-use Rattle.std.proofs.lemmas.Result.{err_from_is_err_and}
-use Rattle.mr_wf.specs.Gives.{surroundings_of}
-use Rattle.mr_wf.specs.JudgingPrograms.{each_walked, walked_stmt}
+use Rattle.mr_wf.proofs.Common.{arith, err_from_is_err_and, surroundings_of, each_walked, walked_stmt}
 use Rattle.mr_wf.proofs.GivesLaws.{thing_goes_on, thing_stops, things_done}
 use Rattle.mr_wf.proofs.walk.walked_stmts.Goals as goal
 

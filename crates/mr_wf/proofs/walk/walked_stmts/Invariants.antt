@@ -1,6 +1,4 @@
-use Rattle.std.proofs.Common.{◌≡◌, drop}
-use Rattle.mr_wf.specs.Gives.{surroundings_of}
-use Rattle.mr_wf.specs.JudgingPrograms.{each_walked, walked_stmt}
+use Rattle.mr_wf.proofs.Common.{◌≡◌, drop, surroundings_of, each_walked, walked_stmt}
 use Rattle.mr_wf.proofs.walk.walked_stmts.Given as goal
 
 abbrev pub invariant-loop-place : goal.invariant-loop-place

@@ -1,6 +1,4 @@
-use Rattle.std.proofs.Common.{sym, ◌∙◌, refl, not, ◌&&◌, false}
-use Rattle.std.specs.Prelude.{◌==◌, slice_index_or}
-use Rattle.mr_exchange.specs.Witness.{entry_at}
+use Rattle.mr_witness.proofs.Common.{sym, ◌∙◌, refl, not, ◌&&◌, false, ◌==◌, slice_index_or, entry_at}
 use Rattle.mr_witness.proofs.Chosen.{chosen_more, chosen_same}
 use Rattle.mr_witness.proofs.choosing.unmarked.Goals as goal
 use Rattle.mr_witness.proofs.choosing.unmarked.Goals.{then-is_kept+in_ok-entry+in_ok-push, else-is_kept}

@@ -1,9 +1,4 @@
-use Rattle.std.proofs.Common.{◌≡◌, ℕ, ◌<◌, ◌↔◌, IsTrue, length, arith, sym, ◌∙◌, refl, subst, ap, false, List, Bool}
-use Rattle.std.specs.Prelude.{slice_index_or}
-use Rattle.mr_event.specs.Order.{HappensBefore}
-use Rattle.mr_event.specs.Predicted.{predicted}
-use Rattle.mr_exchange.proofs.First.{first_of_predicted}
-use Rattle.mr_exchange.specs.Witness.{IsWitness, kept_schedule}
+use Rattle.mr_witness.proofs.Common.{◌≡◌, ℕ, ◌<◌, ◌↔◌, IsTrue, length, arith, sym, ◌∙◌, refl, subst, ap, false, List, Bool, slice_index_or, HappensBefore, predicted, first_of_predicted, IsWitness, kept_schedule}
 use Rattle.mr_witness.proofs.Chosen.{both_copied, pushed_twice}
 use Rattle.mr_witness.proofs.Kept.{witness_of_run}
 use Rattle.mr_witness.proofs.choosing.witness.Goals as goal

@@ -1,5 +1,5 @@
-use Rattle.std.proofs.Common.{◌≡◌, ◌≤◌, ◌^◌, max, drop}
-use Rattle.mr_witness.specs.Shuffled.{above_threads}
+use Rattle.mr_witness.proofs.Common.{◌≡◌, ◌≤◌, ◌^◌, drop, above_threads}
+use Rattle.std.proofs.Common.{max}
 use Rattle.mr_witness.proofs.placing.above_threads.Given as goal
 
 abbrev pub invariant-loop-step : goal.invariant-loop-step

@@ -1,5 +1,4 @@
-use Rattle.std.proofs.Common.{◌≡◌, ℕ, ◌<◌, length, slice_index_or}
-use Rattle.mr_witness.specs.Board.{IsNextOf}
+use Rattle.mr_witness.proofs.Common.{◌≡◌, ℕ, ◌<◌, length, slice_index_or, IsNextOf}
 use Rattle.mr_witness.proofs.placing.fronts_of.Given as goal
 
 abbrev pub invariant-loop-thread : goal.invariant-loop-thread

@@ -1,4 +1,4 @@
-use Rattle.std.proofs.Common.{arith}
+use Rattle.mr_witness.proofs.Common.{arith}
 use Rattle.mr_witness.proofs.Boards.{ends, front_there, opens}
 use Rattle.mr_witness.proofs.placing.is_open.Goals as goal
 

@@ -1,5 +1,4 @@
-use Rattle.std.proofs.Common.{ℕ, ◌<◌, ◌≤◌, ◌≢◌}
-use Rattle.mr_event.specs.Order.{thread_at}
+use Rattle.mr_witness.proofs.Common.{ℕ, ◌<◌, ◌≤◌, ◌≢◌, thread_at}
 use Rattle.mr_witness.proofs.placing.next_of.Given as goal
 
 abbrev pub invariant-loop-k : goal.invariant-loop-k

@@ -1,8 +1,4 @@
-use Rattle.std.proofs.Common.{◌≡◌, length, sym, ◌∙◌, ap, arith}
-use Rattle.std.specs.List.{filter}
-use Rattle.mr_event.specs.Order.{places}
-use Rattle.mr_witness.specs.Board.{left_of}
-use Rattle.mr_witness.specs.Shuffled.{is_ready}
+use Rattle.mr_witness.proofs.Common.{◌≡◌, length, sym, ◌∙◌, ap, arith, filter, places, left_of, is_ready}
 use Rattle.mr_witness.proofs.Boards.{chosen_more, chosen_same}
 use Rattle.mr_witness.proofs.placing.ready_of.Goals as goal
 use Rattle.mr_witness.proofs.placing.ready_of.Goals.{then-opened+in_ok-push, else-opened}

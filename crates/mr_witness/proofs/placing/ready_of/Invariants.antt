@@ -1,8 +1,4 @@
-use Rattle.std.proofs.Common.{◌≡◌}
-use Rattle.std.specs.List.{filter}
-use Rattle.mr_event.specs.Order.{places}
-use Rattle.mr_witness.specs.Board.{left_of}
-use Rattle.mr_witness.specs.Shuffled.{is_ready}
+use Rattle.mr_witness.proofs.Common.{◌≡◌, filter, places, left_of, is_ready}
 use Rattle.mr_witness.proofs.placing.ready_of.Given as goal
 
 abbrev pub invariant-loop-thread : goal.invariant-loop-thread

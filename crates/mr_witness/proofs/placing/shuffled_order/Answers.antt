@@ -1,6 +1,4 @@
-use Rattle.std.proofs.Common.{List, ℕ, length, ◌-◌, ◌+◌, arith, sym, ◌∙◌, ap, subst, ◌++◌, ◌∷◌, []}
-use Rattle.mr_witness.specs.Board.{IsBoard, left_of}
-use Rattle.mr_witness.specs.Shuffled.{placed_in, ready_threads, without}
+use Rattle.mr_witness.proofs.Common.{List, ℕ, length, ◌-◌, ◌+◌, arith, sym, ◌∙◌, ap, subst, ◌++◌, ◌∷◌, [], IsBoard, left_of, placed_in, ready_threads, without}
 use Rattle.mr_witness.proofs.Boards.{all_left, begins_many, begins_told, board_begins, turn_below, turn_is_ready, turn_many, turn_some, turn_step, turn_told}
 use Rattle.mr_witness.proofs.placing.shuffled_order.Goals as goal
 

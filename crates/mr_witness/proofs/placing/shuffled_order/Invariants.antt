@@ -1,6 +1,4 @@
-use Rattle.std.proofs.Common.{◌≡◌, ◌-◌, ◌++◌, length}
-use Rattle.mr_witness.specs.Board.{IsBoard, left_of}
-use Rattle.mr_witness.specs.Shuffled.{placed_in, shuffled_order}
+use Rattle.mr_witness.proofs.Common.{◌≡◌, ◌-◌, ◌++◌, length, IsBoard, left_of, placed_in, shuffled_order}
 use Rattle.mr_witness.proofs.placing.shuffled_order.Given as goal
 
 abbrev pub invariant-loop-turn : goal.invariant-loop-turn

@@ -1,4 +1,4 @@
-use Rattle.std.proofs.Common.{arith, ◌∙◌}
+use Rattle.mr_witness.proofs.Common.{arith, ◌∙◌}
 use Rattle.mr_witness.proofs.Boards.{front_is, front_read, taken_board, taken_within}
 use Rattle.mr_witness.proofs.placing.taken.Goals as goal
 

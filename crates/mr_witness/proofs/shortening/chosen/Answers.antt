@@ -1,5 +1,4 @@
-use Rattle.std.proofs.Common.{sym, ◌∙◌}
-use Rattle.mr_exchange.specs.Witness.{entry_at}
+use Rattle.mr_witness.proofs.Common.{sym, ◌∙◌, entry_at}
 use Rattle.mr_witness.proofs.Chosen.{chosen_more, chosen_same}
 use Rattle.mr_witness.proofs.shortening.chosen.Goals as goal
 use Rattle.mr_witness.proofs.shortening.chosen.Goals.{then-is_chosen+in_ok-entry+in_ok-push, else-is_chosen}

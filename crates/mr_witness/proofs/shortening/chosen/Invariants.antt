@@ -1,8 +1,4 @@
-use Rattle.std.proofs.Common.{◌≡◌, map, not, ◌&&◌, false}
-use Rattle.std.specs.Prelude.{◌==◌, slice_index_or}
-use Rattle.std.specs.List.{filter}
-use Rattle.mr_event.specs.Order.{places}
-use Rattle.mr_exchange.specs.Witness.{entry_at}
+use Rattle.mr_witness.proofs.Common.{◌≡◌, map, not, ◌&&◌, false, ◌==◌, slice_index_or, filter, places, entry_at}
 use Rattle.mr_witness.proofs.shortening.chosen.Given as goal
 
 abbrev pub invariant-loop-k : goal.invariant-loop-k

@@ -1,6 +1,4 @@
-use Rattle.std.proofs.Common.{ℕ, ◌≡◌, arith, refl, subst}
-use Rattle.std.proofs.lemmas.Bool.{both_ways}
-use Rattle.mr_witness.specs.Marks.{AreRivalsBelow}
+use Rattle.mr_witness.proofs.Common.{ℕ, ◌≡◌, arith, refl, subst, both_ways, AreRivalsBelow}
 use Rattle.mr_witness.proofs.Needed.{ends_all, more_rivals, no_rivals, same_rivals}
 use Rattle.mr_witness.proofs.shortening.ends_of.Goals as goal
 use Rattle.mr_witness.proofs.shortening.ends_of.Goals.{then-are_rivals+in_ok-push, else-are_rivals}

@@ -1,4 +1,4 @@
-use Rattle.mr_witness.specs.Marks.{AreRivalsBelow}
+use Rattle.mr_witness.proofs.Common.{AreRivalsBelow}
 use Rattle.mr_witness.proofs.shortening.ends_of.Given as goal
 
 abbrev pub invariant-loop-k : goal.invariant-loop-k

@@ -1,5 +1,4 @@
-use Rattle.std.proofs.Common.{◌∙◌, sym, subst}
-use Rattle.mr_witness.specs.Marks.{AreEnds}
+use Rattle.mr_witness.proofs.Common.{◌∙◌, sym, subst, AreEnds}
 use Rattle.mr_witness.proofs.Needed.{ends_within, marks_told}
 use Rattle.mr_witness.proofs.shortening.marks_of.Goals as goal
 

@@ -1,7 +1,5 @@
-use Rattle.std.proofs.Common.{◌∙◌, length, arith, sym, subst, ap}
-use Rattle.mr_exchange.proofs.First.{first_of_predicted}
+use Rattle.mr_witness.proofs.Common.{◌∙◌, length, arith, sym, subst, ap, first_of_predicted, AreMarks}
 use Rattle.mr_witness.proofs.Chosen.{pushed_twice}
-use Rattle.mr_witness.specs.Marks.{AreMarks}
 use Rattle.mr_witness.proofs.ShortChosen.{both_copied}
 use Rattle.mr_witness.proofs.Fewer.{among_kept, no_longer}
 use Rattle.mr_witness.proofs.ShortWitness.{witness_of_run}

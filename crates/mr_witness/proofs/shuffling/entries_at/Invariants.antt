@@ -1,5 +1,4 @@
-use Rattle.std.proofs.Common.{◌≡◌, map, take}
-use Rattle.mr_exchange.specs.Witness.{entry_at}
+use Rattle.mr_witness.proofs.Common.{◌≡◌, map, take, entry_at}
 use Rattle.mr_witness.proofs.shuffling.entries_at.Given as goal
 
 abbrev pub invariant-loop-k : goal.invariant-loop-k

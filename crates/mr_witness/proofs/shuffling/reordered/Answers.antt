@@ -1,4 +1,4 @@
-use Rattle.std.proofs.Common.{◌∙◌}
+use Rattle.mr_witness.proofs.Common.{◌∙◌}
 use Rattle.mr_witness.proofs.Copied.{with_last, without_last}
 use Rattle.mr_witness.proofs.shuffling.reordered.Goals as goal
 use Rattle.mr_witness.proofs.shuffling.reordered.Goals.{then-completed-entries+in_ok-last+in_ok-push, else-completed-entries}

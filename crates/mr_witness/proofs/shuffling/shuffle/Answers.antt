@@ -1,4 +1,4 @@
-use Rattle.std.proofs.Common.{◌∙◌, ap, length, arith}
+use Rattle.mr_witness.proofs.Common.{◌∙◌, ap, length, arith}
 use Rattle.mr_witness.proofs.Copied.{all_copied, places_within, shuffled_same}
 use Rattle.mr_witness.proofs.Drawn.{shuffled_rearranged}
 use Rattle.mr_witness.proofs.shuffling.shuffle.Goals as goal

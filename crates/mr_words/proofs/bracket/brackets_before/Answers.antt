@@ -1,6 +1,4 @@
-use Rattle.std.proofs.Common.{◌<◌, length, refl, arith}
-use Rattle.mr_words.specs.Brackets.{closes, opens}
-use Rattle.mr_words.specs.Places.{words_of}
+use Rattle.mr_words.proofs.Common.{◌<◌, length, refl, arith, closes, opens, words_of}
 use Rattle.mr_words.proofs.BracketCounts.{at_most_one_more, counted}
 use Rattle.mr_words.proofs.PlaceLaws.{words_length}
 use Rattle.mr_words.proofs.bracket.brackets_before.Goals as goal

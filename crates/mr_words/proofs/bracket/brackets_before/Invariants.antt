@@ -1,7 +1,4 @@
-use Rattle.std.proofs.Common.{◌≡◌, ◌≤◌, take}
-use Rattle.std.specs.List.{count_by}
-use Rattle.mr_words.specs.Brackets.{closes, opens}
-use Rattle.mr_words.specs.Places.{words_of}
+use Rattle.mr_words.proofs.Common.{◌≡◌, ◌≤◌, take, count_by, closes, opens, words_of}
 use Rattle.mr_words.proofs.bracket.brackets_before.Given as goal
 
 abbrev pub invariant-loop-i : goal.invariant-loop-i

@@ -1,9 +1,4 @@
-use Rattle.std.proofs.Common.{◌≡◌, ◌+◌, ◌&&◌, List, ℕ, Bool, nat_le, take, sym, ap, ◌∙◌}
-use Rattle.std.specs.List.{count_by}
-use Rattle.mr_ast.specs.Forms.{Word}
-use Rattle.mr_words.specs.Defined.{text_at}
-use Rattle.mr_words.specs.Brackets.{closes, opens}
-use Rattle.mr_words.specs.Places.{words_of}
+use Rattle.mr_words.proofs.Common.{◌≡◌, ◌+◌, ◌&&◌, List, ℕ, Bool, nat_le, take, sym, ap, ◌∙◌, count_by, Word, text_at, closes, opens, words_of}
 use Rattle.mr_words.proofs.BracketCounts.{too_many_at}
 use Rattle.mr_words.proofs.bracket.is_bracket_too_many.Goals as goal
 

@@ -1,5 +1,4 @@
-use Rattle.std.proofs.Common.{◌≡◌, ◌-◌, ◌==◌, true, length, refl, arith}
-use Rattle.mr_words.specs.Places.{words_of}
+use Rattle.mr_words.proofs.Common.{◌≡◌, ◌-◌, ◌==◌, true, length, refl, arith, words_of}
 use Rattle.mr_words.proofs.BracketCounts.{told_deep, told_kept}
 use Rattle.mr_words.proofs.PlaceLaws.{words_length}
 use Rattle.mr_words.proofs.bracket.told.Goals as goal

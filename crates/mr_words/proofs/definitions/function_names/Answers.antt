@@ -1,9 +1,5 @@
-use Rattle.std.proofs.Common.{◌≡◌, List, ℕ, map, ap, ◌∙◌}
+use Rattle.mr_words.proofs.Common.{◌≡◌, List, ℕ, map, ap, ◌∙◌, Word, FunctionNames, Texts, function_names_in, text_at}
 use Rattle.mr_ast.specs.declared.program.Function.{Function}
-use Rattle.mr_ast.specs.Forms.{Word}
-use Rattle.mr_ast.specs.Scope.{FunctionNames}
-use Rattle.mr_ast.specs.Words.{Texts}
-use Rattle.mr_words.specs.Defined.{function_names_in, text_at}
 use Rattle.mr_words.proofs.definitions.function_names.Goals as goal
 
 same : (words : List Word) (f : Function) (name : List ℕ) (locals blocks : Texts) → name ≡ text_at words f.name → locals ≡ map (λ l. text_at words l.name) f.locals

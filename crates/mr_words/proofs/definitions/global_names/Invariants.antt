@@ -1,6 +1,4 @@
-use Rattle.std.proofs.Common.{◌≡◌, map, take}
-use Rattle.mr_words.specs.Defined.{text_at}
-use Rattle.mr_words.specs.Places.{words_of}
+use Rattle.mr_words.proofs.Common.{◌≡◌, map, take, text_at, words_of}
 use Rattle.mr_words.proofs.definitions.global_names.Given as goal
 
 abbrev pub invariant-loop-global : goal.invariant-loop-global

@@ -1,6 +1,4 @@
-use Rattle.std.proofs.Common.{◌≡◌, map, take}
-use Rattle.mr_words.specs.Defined.{function_names_in}
-use Rattle.mr_words.specs.Places.{words_of}
+use Rattle.mr_words.proofs.Common.{◌≡◌, map, take, function_names_in, words_of}
 use Rattle.mr_words.proofs.definitions.names_of_functions.Given as goal
 
 abbrev pub invariant-loop-function : goal.invariant-loop-function

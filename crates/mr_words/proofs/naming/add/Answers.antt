@@ -1,4 +1,4 @@
-use Rattle.std.proofs.Common.{subst}
+use Rattle.mr_words.proofs.Common.{subst}
 use Rattle.mr_ast.specs.Names.{Adds}
 use Rattle.mr_ast.proofs.TextsLaws.{with_text-Adds}
 use Rattle.mr_words.proofs.naming.add.Goals as goal

@@ -1,6 +1,5 @@
-use Rattle.std.proofs.Common.{List, ℕ, [], Bor, arith}
+use Rattle.mr_words.proofs.Common.{List, ℕ, [], Bor, arith, length-map}
 use Rattle.std.proofs.Math.ListN.{get_or-map}
-use Rattle.std.proofs.lemmas.List.{length-map}
 use Rattle.mr_words.proofs.naming.add_all.Goals as goal
 
 pub add-requires-clause-ascii : goal.add-requires-clause-ascii

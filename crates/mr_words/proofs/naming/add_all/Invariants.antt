@@ -1,6 +1,4 @@
-use Rattle.std.proofs.Common.{◌≡◌, ◌≤◌, ◌+◌, length, map, take}
-use Rattle.std.specs.List.{fold}
-use Rattle.mr_ast.specs.Scope.{with_text}
+use Rattle.mr_words.proofs.Common.{◌≡◌, ◌≤◌, ◌+◌, length, map, take, fold, with_text}
 use Rattle.mr_words.proofs.naming.add_all.Given as goal
 
 abbrev pub invariant-loop-text : goal.invariant-loop-text

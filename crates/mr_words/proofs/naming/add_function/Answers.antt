@@ -1,6 +1,4 @@
-use Rattle.std.proofs.Common.{List, ℕ, Bor, length, map, ap, arith}
-use Rattle.std.proofs.lemmas.List.{length-map}
-use Rattle.mr_ast.proofs.TextsLaws.{length-with_text}
+use Rattle.mr_words.proofs.Common.{List, ℕ, Bor, length, map, ap, arith, length-map, length-with_text}
 use Rattle.mr_words.proofs.NamingLaws.{length-with_texts}
 use Rattle.mr_words.proofs.naming.add_function.Goals as goal
 

@@ -1,8 +1,5 @@
-use Rattle.std.proofs.Common.{◌<◌, length, map, ap, sym, ◌∙◌, arith}
-use Rattle.std.proofs.lemmas.List.{append-nil}
-use Rattle.mr_ast.specs.Scope.{each_once, with_text}
+use Rattle.mr_words.proofs.Common.{◌<◌, length, map, ap, sym, ◌∙◌, arith, append-nil, each_once, with_text, length-with_text}
 use Rattle.mr_words.proofs.ScopeLaws.{once-length}
-use Rattle.mr_ast.proofs.TextsLaws.{length-with_text}
 use Rattle.mr_words.proofs.NamingLaws.{one_more_name}
 use Rattle.mr_words.proofs.naming.item_names.Goals as goal
 

@@ -1,5 +1,4 @@
-use Rattle.std.proofs.Common.{◌≡◌, ◌≤◌, ◌+◌, ◌++◌, length, map, take}
-use Rattle.mr_ast.specs.Scope.{FunctionNames, each_once}
+use Rattle.mr_words.proofs.Common.{◌≡◌, ◌≤◌, ◌+◌, ◌++◌, length, map, take, FunctionNames, each_once}
 use Rattle.mr_words.proofs.naming.item_names.Given as goal
 
 abbrev pub invariant-loop-function : goal.invariant-loop-function

@@ -1,8 +1,6 @@
-use Rattle.std.proofs.Common.{◌<◌, length, map, ap, sym, subst, ◌∙◌, All, arith}
-use Rattle.std.specs.List.{fold}
-use Rattle.std.proofs.lemmas.List.{append-nil}
-use Rattle.mr_ast.specs.Scope.{each_once, with_text}
-use Rattle.mr_words.specs.Naming.{IsSmallFunction, names_in}
+use Rattle.mr_words.proofs.Common.{◌<◌, length, map, ap, sym, subst, ◌∙◌, arith, fold, append-nil, each_once, with_text, names_in}
+use Rattle.std.proofs.Common.{All}
+use Rattle.mr_words.specs.Naming.{IsSmallFunction}
 use Rattle.mr_words.proofs.ScopeLaws.{once-length}
 use Rattle.mr_words.proofs.NamingLaws.{length-names_in, length-with_texts, one_more_function}
 use Rattle.mr_words.proofs.naming.names_of.Goals as goal

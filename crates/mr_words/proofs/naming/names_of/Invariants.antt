@@ -1,7 +1,5 @@
-use Rattle.std.proofs.Common.{◌≡◌, ◌≤◌, ◌+◌, ◌*◌, ◌++◌, length, take}
-use Rattle.std.specs.List.{flat_map}
-use Rattle.mr_ast.specs.Scope.{each_once}
-use Rattle.mr_words.specs.Naming.{names_in}
+use Rattle.mr_words.proofs.Common.{◌≡◌, ◌≤◌, ◌+◌, ◌++◌, length, take, flat_map, each_once, names_in}
+use Rattle.std.proofs.Common.{◌*◌}
 use Rattle.mr_words.proofs.naming.names_of.Given as goal
 
 abbrev pub invariant-loop-function : goal.invariant-loop-function

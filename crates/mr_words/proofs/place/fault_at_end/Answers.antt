@@ -1,4 +1,4 @@
-use Rattle.std.proofs.Common.{◌+◌, ◌==◌, if◌then◌else◌, get_or, ap, ◌∙◌, arith}
+use Rattle.mr_words.proofs.Common.{◌+◌, ◌==◌, if◌then◌else◌, get_or, ap, ◌∙◌, arith}
 use Rattle.mr_lex.specs.declared.token.TextFault.{TextFault}
 use Rattle.mr_words.proofs.EndLaws.{placed-le, placed_more}
 use Rattle.mr_words.proofs.place.fault_at_end.Goals as goal

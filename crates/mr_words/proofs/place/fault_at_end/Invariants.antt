@@ -1,4 +1,4 @@
-use Rattle.std.proofs.Common.{◌≡◌}
+use Rattle.mr_words.proofs.Common.{◌≡◌}
 use Rattle.mr_lex.specs.Places.{column_of, line_of}
 use Rattle.mr_words.proofs.place.fault_at_end.Given as goal
 

@@ -1,5 +1,4 @@
-use Rattle.std.proofs.Common.{◌≡◌, map, drop}
-use Rattle.mr_ast.specs.Words.{looked_up}
+use Rattle.mr_words.proofs.Common.{◌≡◌, map, drop, looked_up}
 use Rattle.mr_words.proofs.table.looked_up.Given as goal
 
 abbrev pub invariant-loop-entry : goal.invariant-loop-entry

@@ -1,4 +1,5 @@
-use Rattle.std.proofs.Common.{◌≢◌, ℕ, [], ◌∷◌, ◌++◌, Some, map, slice_get, string_bytes, ap, ◌∙◌, inr}
+use Rattle.mr_ast.proofs.Common.{◌≢◌, ℕ, [], ◌∷◌, ◌++◌, Some, map, slice_get, ap, ◌∙◌, inr}
+use Rattle.std.proofs.Common.{string_bytes}
 use Rattle.mr_ast.proofs.NameLaws.{map-insert_key}
 use Rattle.mr_ast.proofs.names.Names.add.Goals as goal
 

@@ -1,4 +1,5 @@
-use Rattle.std.proofs.Common.{is_some, sym, ap, ◌∙◌}
+use Rattle.mr_ast.proofs.Common.{sym, ap, ◌∙◌}
+use Rattle.std.proofs.Common.{is_some}
 use Rattle.mr_ast.proofs.NameLaws.{IsFirst-position, missing-list_any}
 use Rattle.mr_ast.proofs.names.Names.find.Goals as goal
 

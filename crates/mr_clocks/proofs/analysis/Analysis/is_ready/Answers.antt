@@ -1,6 +1,5 @@
-use Rattle.std.proofs.Common.{◌≡◌, List, ℕ, sym, ◌∙◌, ap, subst, arith}
+use Rattle.mr_clocks.proofs.Common.{◌≡◌, List, ℕ, sym, ◌∙◌, ap, subst, arith, IsClockOf, clock_at}
 use Rattle.std.proofs.lemmas.Bool.{leb-true}
-use Rattle.mr_clocks.specs.Clocks.{IsClockOf, clock_at}
 use Rattle.mr_clocks.proofs.Wholes.{ready_own, ready_within, within_ready}
 use Rattle.mr_clocks.proofs.analysis.Analysis.is_ready.Goals as goal
 

@@ -1,5 +1,4 @@
-use Rattle.std.proofs.Common.{sym, subst}
-use Rattle.mr_clocks.specs.Tracked.{Tracks}
+use Rattle.mr_clocks.proofs.Common.{sym, subst, Tracks}
 use Rattle.mr_clocks.proofs.Longer.{without_last}
 use Rattle.mr_clocks.proofs.analysis.Analysis.of_run.Goals as goal
 

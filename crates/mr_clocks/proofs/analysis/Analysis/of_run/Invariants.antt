@@ -1,5 +1,4 @@
-use Rattle.std.proofs.Common.{take}
-use Rattle.mr_clocks.specs.Tracked.{Tracks}
+use Rattle.mr_clocks.proofs.Common.{take, Tracks}
 use Rattle.mr_clocks.proofs.analysis.Analysis.of_run.Given as goal
 
 abbrev pub invariant-loop-j : goal.invariant-loop-j

@@ -1,4 +1,4 @@
-use Rattle.std.proofs.Common.{ℕ, ◌<◌, ◌≤◌, slice_index}
+use Rattle.mr_clocks.proofs.Common.{ℕ, ◌<◌, ◌≤◌, slice_index}
 use Rattle.mr_clocks.proofs.clock.Clock.is_within.Given as goal
 
 abbrev pub invariant-loop-t : goal.invariant-loop-t

@@ -1,4 +1,5 @@
-use Rattle.std.proofs.Common.{◌≡◌, ℕ, ◌<◌, ◌≤◌, length, max, get_or}
+use Rattle.mr_event.proofs.Common.{◌≡◌, ℕ, ◌<◌, ◌≤◌, length, get_or}
+use Rattle.std.proofs.Common.{max}
 use Rattle.mr_event.proofs.clocks.Clock.join.Given as goal
 
 abbrev pub invariant-loop-s : goal.invariant-loop-s

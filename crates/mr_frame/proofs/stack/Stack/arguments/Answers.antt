@@ -1,18 +1,4 @@
-use Rattle.std.proofs.Common.{List, Option, refl, sym, ap, ◌∙◌, subst}
-use Rattle.std.specs.Prelude.{All}
-use Rattle.mr_ast.specs.declared.expr.Place.{Place}
-use Rattle.mr_ast.specs.declared.expr.Value.{Value}
-use Rattle.mr_ast.specs.declared.program.Term.{Term}
-use Rattle.mr_base.specs.Script.{Outcome}
-use Rattle.mr_eval.specs.Answers.{seen}
-use Rattle.mr_eval.specs.Reads.{Seen}
-use Rattle.mr_eval.specs.World.{TellsBy}
-use Rattle.mr_frame.specs.Doing.{PlainIn, ResultIn, given_operands, operands_of}
-use Rattle.mr_frame.specs.Frames.{scene_in}
-use Rattle.mr_frame.specs.Inside.{TermIn}
-use Rattle.mr_frame.specs.Kept.{below_of, frame_of, look_of, stack_of}
-use Rattle.mr_frame.specs.Operations.{Operands}
-use Rattle.mr_frame.specs.Sites.{Site, due_term}
+use Rattle.mr_frame.proofs.Common.{List, Option, refl, sym, ap, ◌∙◌, subst, All, Place, Value, Term, Outcome, seen, Seen, TellsBy, PlainIn, ResultIn, given_operands, operands_of, scene_in, TermIn, below_of, frame_of, look_of, stack_of, Operands, Site, due_term}
 use Rattle.mr_frame.proofs.DoLaws.{argued_is, do_operands}
 use Rattle.mr_frame.proofs.IntrinsicLaws.{same_do, site_due}
 use Rattle.mr_frame.proofs.StandLaws.{term_in_block}

@@ -1,4 +1,4 @@
-use Rattle.mr_frame.specs.Kept.{below_of, frame_of, stack_of}
+use Rattle.mr_frame.proofs.Common.{below_of, frame_of, stack_of}
 use Rattle.mr_frame.proofs.IntrinsicLaws.{no_do}
 use Rattle.mr_frame.proofs.stack.Stack.asks.Goals as goal
 

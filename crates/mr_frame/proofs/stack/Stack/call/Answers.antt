@@ -1,12 +1,4 @@
-use Rattle.std.proofs.Common.{◌<◌, ◌^◌, length, sym, subst, arith}
-use Rattle.mr_base.specs.Script.{Outcome}
-use Rattle.mr_eval.specs.Answers.{seen}
-use Rattle.mr_eval.specs.Tally.{seen_of, with_seen}
-use Rattle.mr_eval.specs.World.{TellsBy, World, world_of}
-use Rattle.mr_frame.specs.Calling.{Prepared, prepared}
-use Rattle.mr_frame.specs.Effects.{acted}
-use Rattle.mr_frame.specs.Frames.{Onward}
-use Rattle.mr_frame.specs.Kept.{look_of, onward_of, stack_of}
+use Rattle.mr_frame.proofs.Common.{◌<◌, ◌^◌, length, sym, subst, arith, Outcome, seen, seen_of, with_seen, TellsBy, World, world_of, Prepared, prepared, acted, Onward, look_of, onward_of, stack_of}
 use Rattle.mr_frame.proofs.CallLaws.{prepared_stop}
 use Rattle.mr_frame.proofs.CallStands.{call_begins, call_goes, call_stops, scene}
 use Rattle.mr_frame.proofs.stack.Stack.call.Goals as goal

@@ -1,19 +1,8 @@
-use Rattle.std.proofs.Common.{◌≡◌, ◌++◌, List, sym, ap, ◌∙◌, subst, append-nil}
-use Rattle.std.proofs.lemmas.Option.{same_Some}
-use Rattle.std.specs.Prelude.{Result, Ok, Err, OnOk, if◌then◌else◌}
+use Rattle.mr_frame.proofs.Common.{◌≡◌, ◌++◌, List, sym, ap, ◌∙◌, subst, append-nil, same_Some, Result, Ok, Err, OnOk, if◌then◌else◌, Fault, Ask, seen, Seen, nothing_seen, Prepared, Prepares, prepared, kept_types, storage_asks, look_of, stop_with}
 use Rattle.std.specs.Result.{is_ok}
-use Rattle.mr_mem.specs.declared.fault.Fault.{Fault}
-use Rattle.mr_sched.specs.declared.schedule.Ask.{Ask}
-use Rattle.mr_eval.specs.Answers.{seen}
-use Rattle.mr_eval.specs.Reads.{Seen}
-use Rattle.mr_frame.specs.Acting.{nothing_seen}
-use Rattle.mr_frame.specs.Calling.{Prepared, Prepares, prepared}
-use Rattle.mr_frame.specs.Calls.{kept_types, storage_asks}
-use Rattle.mr_frame.specs.Kept.{look_of}
 use Rattle.mr_frame.proofs.BeginWhole.{function_typed}
 use Rattle.mr_frame.proofs.CallStands.{asked_nothing, asked_prepared, scene}
 use Rattle.mr_frame.proofs.StandLaws.{at_below}
-use Rattle.mr_base.specs.Stops.{stop_with}
 use Rattle.mr_frame.proofs.stack.Stack.call_asks.Goals as goal
 
 pub function-requires : goal.function-requires

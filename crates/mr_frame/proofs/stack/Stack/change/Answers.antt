@@ -1,14 +1,4 @@
-use Rattle.std.proofs.Common.{◌∷◌, refl, sym, ap, ◌∙◌}
-use Rattle.mr_base.specs.Script.{Went, on}
-use Rattle.mr_eval.specs.Answers.{seen}
-use Rattle.mr_eval.specs.Environment.{env_surround}
-use Rattle.mr_eval.specs.Evaluation.{Surround}
-use Rattle.mr_eval.specs.Tally.{seen_of, with_seen}
-use Rattle.mr_eval.specs.World.{world_of}
-use Rattle.mr_frame.specs.Effects.{Left, acted, changed}
-use Rattle.mr_frame.specs.Frames.{Frame, GoesOn, behind_stmt}
-use Rattle.mr_frame.specs.Kept.{below_of, frame_of, look_of, stack_of}
-use Rattle.mr_frame.specs.Sites.{AtStatement}
+use Rattle.mr_frame.proofs.Common.{◌∷◌, refl, sym, ap, ◌∙◌, Went, on, seen, env_surround, Surround, seen_of, with_seen, world_of, Left, acted, changed, Frame, GoesOn, behind_stmt, below_of, frame_of, look_of, stack_of, AtStatement}
 use Rattle.mr_frame.proofs.ActedLaws.{acted_change}
 use Rattle.mr_frame.proofs.StandLaws.{room_behind, stmt_in}
 use Rattle.mr_frame.proofs.ToldLaws.{left_stop}

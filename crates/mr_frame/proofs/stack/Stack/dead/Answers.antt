@@ -1,10 +1,5 @@
-use Rattle.std.proofs.Common.{ℕ, ◌+◌, ◌<◌, ◌^◌, refl, sym, ap, ◌∙◌, subst}
+use Rattle.mr_frame.proofs.Common.{ℕ, ◌+◌, ◌<◌, ◌^◌, refl, sym, ap, ◌∙◌, subst, world_of, acted, unstored, Frame, behind_stmt, frame_of, look_of, stack_of, AtStatement}
 use Rattle.mr_ast.specs.declared.program.Stmt.TheVariants as stmt
-use Rattle.mr_eval.specs.World.{world_of}
-use Rattle.mr_frame.specs.Effects.{acted, unstored}
-use Rattle.mr_frame.specs.Frames.{Frame, behind_stmt}
-use Rattle.mr_frame.specs.Kept.{frame_of, look_of, stack_of}
-use Rattle.mr_frame.specs.Sites.{AtStatement}
 use Rattle.mr_frame.proofs.LiveLaws.{dead_goes, dead_stops}
 use Rattle.mr_frame.proofs.StandLaws.{dead_holds, holds_below, room_behind}
 use Rattle.mr_frame.proofs.ToldLaws.{told_stop}

@@ -1,8 +1,4 @@
-use Rattle.std.proofs.Common.{sym, ap, ◌∙◌}
-use Rattle.std.proofs.lemmas.Option.{same_Some}
-use Rattle.std.specs.Prelude.{slice_get}
-use Rattle.mr_ast.specs.declared.program.Function.{Function}
-use Rattle.mr_frame.specs.Kept.{below_of, frame_of}
+use Rattle.mr_frame.proofs.Common.{sym, ap, ◌∙◌, same_Some, slice_get, Function, below_of, frame_of}
 use Rattle.mr_frame.proofs.StandLaws.{found_due}
 use Rattle.mr_frame.proofs.stack.Stack.due.Goals as goal
 

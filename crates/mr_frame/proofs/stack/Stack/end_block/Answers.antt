@@ -1,11 +1,4 @@
-use Rattle.std.proofs.Common.{◌≡◌, ◌∷◌, sym, ap, ◌∙◌, subst}
-use Rattle.mr_ast.specs.declared.program.Term.{Term}
-use Rattle.mr_base.specs.Script.{Went}
-use Rattle.mr_eval.specs.World.{world_of}
-use Rattle.mr_frame.specs.Frames.{Frame, GoesOn, Stack, at_block}
-use Rattle.mr_frame.specs.Kept.{below_of, frame_of, stack_of}
-use Rattle.mr_frame.specs.Sites.{due_term}
-use Rattle.mr_frame.specs.Standing.{IsDue}
+use Rattle.mr_frame.proofs.Common.{◌≡◌, ◌∷◌, sym, ap, ◌∙◌, subst, Term, Went, world_of, Frame, GoesOn, Stack, at_block, below_of, frame_of, stack_of, due_term, IsDue}
 use Rattle.mr_frame.proofs.ActedLaws.{acted_abort, acted_exit, acted_goto, acted_stop, acted_unreachable}
 use Rattle.mr_frame.proofs.CallSafe.{heads, tails}
 use Rattle.mr_frame.proofs.stack.Stack.end_block.Goals as goal

@@ -1,4 +1,4 @@
-use Rattle.mr_eval.specs.World.{world_of}
+use Rattle.mr_frame.proofs.Common.{world_of}
 use Rattle.mr_frame.proofs.EnterLaws.{not_refused}
 use Rattle.mr_frame.proofs.stack.Stack.enter.Goals as goal
 

@@ -1,12 +1,4 @@
-use Rattle.std.proofs.Common.{◌∷◌, List, Some, sym, ap, ◌∙◌, subst}
-use Rattle.std.specs.Prelude.{slice_get}
-use Rattle.mr_value.specs.declared.val.Val.{Val}
-use Rattle.mr_base.specs.Script.{Outcome, Went, on}
-use Rattle.mr_eval.specs.World.{World, world_of}
-use Rattle.mr_frame.specs.Beginning.{CanBegin}
-use Rattle.mr_frame.specs.Effects.{entered}
-use Rattle.mr_frame.specs.Frames.{Frame, GoesOn, Onward, Stack}
-use Rattle.mr_frame.specs.Kept.{below_of, frame_of, stack_of}
+use Rattle.mr_frame.proofs.Common.{◌∷◌, List, Some, sym, ap, ◌∙◌, subst, slice_get, Val, Outcome, Went, on, World, world_of, CanBegin, entered, Frame, GoesOn, Onward, Stack, below_of, frame_of, stack_of}
 use Rattle.mr_frame.proofs.ToldLaws.{told_stop}
 use Rattle.mr_frame.proofs.stack.Stack.enter_call.Goals as goal
 

@@ -1,13 +1,4 @@
-use Rattle.std.proofs.Common.{◌≡◌, ◌∷◌, sym, ap, ◌∙◌}
-use Rattle.std.specs.Prelude.{option_copied}
-use Rattle.mr_ast.specs.declared.program.BlockName.{BlockName}
-use Rattle.mr_base.specs.Script.{Went}
-use Rattle.mr_eval.specs.World.{world_of}
-use Rattle.mr_frame.specs.Doing.{operands_of, result_stored}
-use Rattle.mr_frame.specs.Effects.{finished}
-use Rattle.mr_frame.specs.Frames.{Frame, Stack, at_block}
-use Rattle.mr_frame.specs.Kept.{below_of, frame_of, stack_of}
-use Rattle.mr_frame.specs.Sites.{due_term}
+use Rattle.mr_frame.proofs.Common.{◌≡◌, ◌∷◌, sym, ap, ◌∙◌, option_copied, BlockName, Went, world_of, operands_of, result_stored, finished, Frame, Stack, at_block, below_of, frame_of, stack_of, due_term}
 use Rattle.mr_frame.proofs.ActedLaws.{site}
 use Rattle.mr_frame.proofs.DoLaws.{done_is, finished_stop, finished_went}
 use Rattle.mr_frame.proofs.IntrinsicLaws.{same_do, site_due}

@@ -1,11 +1,4 @@
-use Rattle.std.proofs.Common.{[], List, Some, sym, ap, ◌∙◌}
-use Rattle.mr_base.specs.declared.byte.Pointer.{Pointer}
-use Rattle.mr_base.specs.Script.{Went}
-use Rattle.mr_eval.specs.World.{world_of}
-use Rattle.mr_frame.specs.Effects.{stored_in}
-use Rattle.mr_frame.specs.Ending.{found_targets, left_by}
-use Rattle.mr_frame.specs.Frames.{EndsThread, Frame}
-use Rattle.mr_frame.specs.Kept.{below_of, frame_of, look_of, stack_of}
+use Rattle.mr_frame.proofs.Common.{[], List, Some, sym, ap, ◌∙◌, Pointer, Went, world_of, stored_in, found_targets, left_by, EndsThread, Frame, below_of, frame_of, look_of, stack_of}
 use Rattle.mr_frame.proofs.CallSafe.{tails}
 use Rattle.mr_frame.proofs.EndLaws.{caller_targets, gives_at, gives_nowhere, gives_stop, left_none}
 use Rattle.mr_frame.proofs.ToldLaws.{told_stop}

@@ -1,10 +1,5 @@
-use Rattle.std.proofs.Common.{sym, ap, ◌∙◌, subst}
-use Rattle.std.proofs.lemmas.Option.{same_Some}
-use Rattle.std.specs.Prelude.{slice_get}
-use Rattle.mr_ast.specs.declared.program.Program.{Program}
-use Rattle.mr_typing.specs.Walk.{WellFormed}
+use Rattle.mr_frame.proofs.Common.{sym, ap, ◌∙◌, subst, same_Some, slice_get, Program, WellFormed, below_of, frame_of, stack_of}
 use Rattle.mr_frame.specs.declared.frame.Next.TheVariants as next
-use Rattle.mr_frame.specs.Kept.{below_of, frame_of, stack_of}
 use Rattle.mr_frame.proofs.IntrinsicLaws.{op_due}
 use Rattle.mr_frame.proofs.stack.Stack.intrinsic.Goals as goal
 

@@ -1,9 +1,5 @@
-use Rattle.std.proofs.Common.{subst, sym, List}
-use Rattle.std.specs.Prelude.{All}
-use Rattle.mr_ast.specs.declared.program.Local.{Local}
+use Rattle.mr_frame.proofs.Common.{subst, sym, List, All, Local, TypeOk, AtTerminator}
 use Rattle.mr_ast.specs.declared.program.Term.TheVariants as term
-use Rattle.mr_layout.specs.TypeOk.{TypeOk}
-use Rattle.mr_frame.specs.Sites.{AtTerminator}
 use Rattle.mr_frame.proofs.StandLaws.{ret_inside, ret_ok, top_types}
 use Rattle.mr_frame.proofs.stack.Stack.leave.Goals as goal
 

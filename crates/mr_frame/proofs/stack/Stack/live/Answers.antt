@@ -1,11 +1,5 @@
-use Rattle.std.proofs.Common.{ℕ, ◌+◌, ◌<◌, ◌^◌, refl, sym, ap, ◌∙◌, subst, arith}
+use Rattle.mr_frame.proofs.Common.{ℕ, ◌+◌, ◌<◌, ◌^◌, refl, sym, ap, ◌∙◌, subst, arith, slice_index_or, world_of, acted, renewed, Frame, behind_stmt, frame_of, look_of, stack_of, AtStatement}
 use Rattle.mr_ast.specs.declared.program.Stmt.TheVariants as stmt
-use Rattle.std.specs.Prelude.{slice_index_or}
-use Rattle.mr_eval.specs.World.{world_of}
-use Rattle.mr_frame.specs.Effects.{acted, renewed}
-use Rattle.mr_frame.specs.Frames.{Frame, behind_stmt}
-use Rattle.mr_frame.specs.Kept.{frame_of, look_of, stack_of}
-use Rattle.mr_frame.specs.Sites.{AtStatement}
 use Rattle.mr_frame.proofs.LiveLaws.{live_can, live_goes, live_one_pick, live_stops, only_pick}
 use Rattle.mr_frame.proofs.StandLaws.{holds_below, live_holds, room_behind}
 use Rattle.mr_frame.proofs.ToldLaws.{told_stop}

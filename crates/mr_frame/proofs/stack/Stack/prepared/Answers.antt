@@ -1,9 +1,4 @@
-use Rattle.std.proofs.Common.{subst}
-use Rattle.mr_ast.specs.declared.program.Program.{Program}
-use Rattle.mr_eval.specs.Answers.{seen}
-use Rattle.mr_eval.specs.Evaluation.{Surround}
-use Rattle.mr_frame.specs.Calling.{Prepares, prepared}
-use Rattle.mr_frame.specs.Frames.{Look}
+use Rattle.mr_frame.proofs.Common.{subst, Program, seen, Surround, Prepares, prepared, Look}
 use Rattle.mr_frame.proofs.CallStands.{call_stands}
 use Rattle.mr_frame.proofs.stack.Stack.prepared.Goals as goal
 

@@ -1,14 +1,5 @@
-use Rattle.std.proofs.Common.{[], List, sym, ap, ◌∙◌, subst}
-use Rattle.std.specs.Prelude.{All, length, slice_get, ◌-◌}
-use Rattle.mr_ast.specs.declared.program.Local.{Local}
+use Rattle.mr_frame.proofs.Common.{[], List, sym, ap, ◌∙◌, subst, All, length, slice_get, ◌-◌, Local, TypeOk, world_of, acted, found_targets, freed_each, Frame, at_block, below_of, frame_of, look_of, stack_of, AtTerminator}
 use Rattle.mr_ast.specs.declared.program.Term.TheVariants as term
-use Rattle.mr_layout.specs.TypeOk.{TypeOk}
-use Rattle.mr_eval.specs.World.{world_of}
-use Rattle.mr_frame.specs.Effects.{acted}
-use Rattle.mr_frame.specs.Ending.{found_targets, freed_each}
-use Rattle.mr_frame.specs.Frames.{Frame, at_block}
-use Rattle.mr_frame.specs.Kept.{below_of, frame_of, look_of, stack_of}
-use Rattle.mr_frame.specs.Sites.{AtTerminator}
 use Rattle.mr_frame.proofs.CallSafe.{heads, tails}
 use Rattle.mr_frame.proofs.EndLaws.{resumed_bottom, resumes_at, resumes_nowhere, resumes_stop, resumes_targets}
 use Rattle.mr_frame.proofs.StackLaws.{last_below, none_below, popped}

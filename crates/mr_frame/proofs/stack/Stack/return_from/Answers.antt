@@ -1,16 +1,5 @@
-use Rattle.std.proofs.Common.{sym, ap, ◌∙◌, subst}
-use Rattle.mr_ast.specs.declared.program.Function.{Function}
+use Rattle.mr_frame.proofs.Common.{sym, ap, ◌∙◌, subst, Function, Outcome, on, seen, TellsBy, World, world_of, Onward, below_of, frame_of, look_of, onward_of, stack_of, AtTerminator, seen_of, acted, local_type, freed_each, left_by, returned}
 use Rattle.mr_ast.specs.declared.program.Term.TheVariants as term
-use Rattle.mr_base.specs.Script.{Outcome, on}
-use Rattle.mr_eval.specs.Answers.{seen}
-use Rattle.mr_eval.specs.World.{TellsBy, World, world_of}
-use Rattle.mr_frame.specs.Frames.{Onward}
-use Rattle.mr_frame.specs.Kept.{below_of, frame_of, look_of, onward_of, stack_of}
-use Rattle.mr_frame.specs.Sites.{AtTerminator}
-use Rattle.mr_eval.specs.Tally.{seen_of}
-use Rattle.mr_frame.specs.Effects.{acted}
-use Rattle.mr_frame.specs.Calls.{local_type}
-use Rattle.mr_frame.specs.Ending.{freed_each, left_by, returned}
 use Rattle.mr_frame.proofs.EndLaws.{returned_at, returned_main, returned_stop}
 use Rattle.mr_frame.proofs.StandLaws.{top_below, top_is}
 use Rattle.mr_frame.proofs.ToldLaws.{told_stop}

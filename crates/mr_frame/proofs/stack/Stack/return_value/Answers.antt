@@ -1,18 +1,6 @@
-use Rattle.std.proofs.Common.{◌≡◌, true, subst, sym, ap, ◌∙◌}
-use Rattle.std.proofs.lemmas.Option.{same_Some}
-use Rattle.std.specs.Option.{option_map}
+use Rattle.mr_frame.proofs.Common.{◌≡◌, true, subst, sym, ap, ◌∙◌, same_Some, option_map, Local, Ty, has_shape, Outcome, Val, seen, Tells, Seen, frame_of, AtTerminator}
 use Rattle.std.specs.Prelude.{IfOk}
-use Rattle.mr_ast.specs.declared.program.Local.{Local}
-use Rattle.mr_ast.specs.declared.types.Ty.{Ty}
-use Rattle.mr_value.specs.Shape.{has_shape}
-use Rattle.mr_base.specs.Script.{Outcome}
 use Rattle.mr_ast.specs.declared.program.Term.TheVariants as term
-use Rattle.mr_value.specs.declared.val.Val.{Val}
-use Rattle.mr_eval.specs.Answers.{seen}
-use Rattle.mr_eval.specs.Environment.{Tells}
-use Rattle.mr_eval.specs.Reads.{Seen}
-use Rattle.mr_frame.specs.Kept.{frame_of}
-use Rattle.mr_frame.specs.Sites.{AtTerminator}
 use Rattle.mr_frame.proofs.EndLaws.{returned_is}
 use Rattle.mr_frame.proofs.StandLaws.{ret_ok}
 use Rattle.mr_frame.proofs.stack.Stack.return_value.Goals as goal

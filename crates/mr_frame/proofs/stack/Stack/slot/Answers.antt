@@ -1,11 +1,5 @@
-use Rattle.std.proofs.Common.{◌≡◌, Some, sym, ap, ◌∙◌, arith}
-use Rattle.std.proofs.lemmas.Option.{same_Some}
-use Rattle.std.specs.Prelude.{slice_get}
-use Rattle.mr_ast.specs.declared.program.Function.{Function}
-use Rattle.mr_ast.specs.declared.program.Local.{Local}
-use Rattle.mr_layout.specs.TypeOk.{TypeOk}
+use Rattle.mr_frame.proofs.Common.{◌≡◌, Some, sym, ap, ◌∙◌, arith, same_Some, slice_get, Function, Local, TypeOk, all_at}
 use Rattle.mr_layout.proofs.Bounds.{type_ok_small}
-use Rattle.mr_base.proofs.Lists.{all_at}
 use Rattle.mr_frame.proofs.stack.Stack.slot.Goals as goal
 
 pub returns : goal.returns

@@ -1,11 +1,4 @@
-use Rattle.std.proofs.Common.{◌≡◌, ◌++◌, List, sym, ap, ◌∙◌, subst, append-nil}
-use Rattle.std.specs.Prelude.{OnOk}
-use Rattle.mr_ast.specs.declared.program.Stmt.{Stmt}
-use Rattle.mr_sched.specs.declared.schedule.Ask.{Ask}
-use Rattle.mr_frame.specs.Acting.{nothing_seen}
-use Rattle.mr_frame.specs.Kept.{below_of, frame_of, stack_of}
-use Rattle.mr_frame.specs.Sites.{AtStatement}
-use Rattle.mr_frame.specs.Standing.{IsDue}
+use Rattle.mr_frame.proofs.Common.{◌≡◌, ◌++◌, List, sym, ap, ◌∙◌, subst, append-nil, OnOk, Stmt, Ask, nothing_seen, below_of, frame_of, stack_of, AtStatement, IsDue}
 use Rattle.mr_frame.proofs.AskLaws.{asked_stmt, live_asks, live_inside, live_ok}
 use Rattle.mr_frame.proofs.stack.Stack.statement_asks.Goals as goal
 

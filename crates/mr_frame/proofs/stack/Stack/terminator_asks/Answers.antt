@@ -1,7 +1,4 @@
-use Rattle.std.proofs.Common.{◌++◌, List, sym, ap, ◌∙◌, append-nil}
-use Rattle.mr_sched.specs.declared.schedule.Ask.{Ask}
-use Rattle.mr_frame.specs.Acting.{nothing_seen}
-use Rattle.mr_frame.specs.Kept.{below_of, frame_of, stack_of}
+use Rattle.mr_frame.proofs.Common.{◌++◌, List, sym, ap, ◌∙◌, append-nil, Ask, nothing_seen, below_of, frame_of, stack_of}
 use Rattle.mr_frame.proofs.AskLaws.{asked_term, no_call}
 use Rattle.mr_frame.proofs.stack.Stack.terminator_asks.Goals as goal
 

@@ -1,17 +1,5 @@
-use Rattle.std.proofs.Common.{◌∷◌, refl, sym, ap, ◌∙◌}
+use Rattle.mr_frame.proofs.Common.{◌∷◌, refl, sym, ap, ◌∙◌, Pointer, Outcome, Went, on, seen, env_surround, Surround, Seen, seen_of, with_seen, world_of, acted, pointed, GoesOn, Stack, at_block, below_of, frame_of, look_of, stack_of, AtTerminator}
 use Rattle.mr_ast.specs.declared.program.Term.TheVariants as term
-use Rattle.mr_base.specs.declared.byte.Pointer.{Pointer}
-use Rattle.mr_base.specs.Script.{Outcome, Went, on}
-use Rattle.mr_eval.specs.Answers.{seen}
-use Rattle.mr_eval.specs.Environment.{env_surround}
-use Rattle.mr_eval.specs.Evaluation.{Surround}
-use Rattle.mr_eval.specs.Reads.{Seen}
-use Rattle.mr_eval.specs.Tally.{seen_of, with_seen}
-use Rattle.mr_eval.specs.World.{world_of}
-use Rattle.mr_frame.specs.Effects.{acted, pointed}
-use Rattle.mr_frame.specs.Frames.{GoesOn, Stack, at_block}
-use Rattle.mr_frame.specs.Kept.{below_of, frame_of, look_of, stack_of}
-use Rattle.mr_frame.specs.Sites.{AtTerminator}
 use Rattle.mr_frame.proofs.ActedLaws.{acted_unwind}
 use Rattle.mr_frame.proofs.StackLaws.{unwound_stack}
 use Rattle.mr_frame.proofs.StandLaws.{term_in_block}

@@ -1,6 +1,4 @@
-use Rattle.std.proofs.Common.{◌∙◌, ap}
-use Rattle.mr_labels.specs.Index.{is_apart}
-use Rattle.mr_labels.specs.Table.{found_at}
+use Rattle.mr_labels.proofs.Common.{◌∙◌, ap, is_apart, found_at}
 use Rattle.mr_labels.proofs.IndexLaws.{found_in_index}
 use Rattle.mr_labels.proofs.allocations.Allocations.found_at.Goals as goal
 

@@ -1,8 +1,5 @@
-use Rattle.std.proofs.Common.{◌∙◌, ap, sym, subst, List}
-use Rattle.std.specs.List.{filter}
+use Rattle.mr_labels.proofs.Common.{◌∙◌, ap, sym, subst, List, filter, Allocation, has_bytes, is_apart}
 use Rattle.std.specs.List.Sorted.{IsPermutation}
-use Rattle.mr_labels.specs.declared.rows.Allocation.{Allocation}
-use Rattle.mr_labels.specs.Index.{has_bytes, is_apart}
 use Rattle.mr_labels.proofs.allocations.Allocations.new.Goals as goal
 
 pub invariant_of-result : goal.invariant_of-result

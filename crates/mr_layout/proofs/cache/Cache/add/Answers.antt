@@ -1,10 +1,7 @@
-use Rattle.std.proofs.Common.{◌≡◌, ◌++◌, ◌∷◌, [], List, None, refl, sym, subst, ◌∙◌, inl}
+use Rattle.mr_layout.proofs.Common.{◌≡◌, ◌++◌, ◌∷◌, [], List, None, refl, sym, subst, ◌∙◌, inl, Ty, held_types, AreDefined, Adds}
 use Rattle.std.specs.Map.{lookup}
 use Rattle.indexmap.proofs.CallerLemmas.{insert_entry-new}
 use Rattle.mr_ast.specs.Equal.{equal_types}
-use Rattle.mr_ast.specs.declared.types.Ty.{Ty}
-use Rattle.mr_layout.specs.Layouts.{held_types, AreDefined}
-use Rattle.mr_layout.specs.Cached.{Adds}
 use Rattle.mr_layout.proofs.CacheLaws.{is_type, added, held_already, none_there, still_defined}
 use Rattle.mr_layout.proofs.cache.Cache.add.Goals as goal
 

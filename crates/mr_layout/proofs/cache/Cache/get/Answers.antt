@@ -1,6 +1,4 @@
-use Rattle.std.proofs.Common.{◌≡◌, Contains, List, subst}
-use Rattle.mr_ast.specs.declared.types.Ty.{Ty}
-use Rattle.mr_layout.specs.Layouts.{layout_of}
+use Rattle.mr_layout.proofs.Common.{◌≡◌, Contains, List, subst, Ty, layout_of}
 use Rattle.mr_layout.proofs.CacheLaws.{kept_at}
 use Rattle.mr_layout.proofs.cache.Cache.get.Goals as goal
 

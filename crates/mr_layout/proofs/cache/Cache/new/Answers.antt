@@ -1,4 +1,4 @@
-use Rattle.std.proofs.Common.{◌∙◌, arith}
+use Rattle.mr_layout.proofs.Common.{◌∙◌, arith}
 use Rattle.mr_layout.specs.Written.{written_types}
 use Rattle.mr_layout.proofs.CacheLaws.{ok_item, next_item, all_items}
 use Rattle.mr_layout.proofs.cache.Cache.new.Goals as goal

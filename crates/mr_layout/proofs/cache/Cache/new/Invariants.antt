@@ -1,5 +1,4 @@
-use Rattle.std.proofs.Common.{map, take}
-use Rattle.mr_layout.specs.Cached.{AreTypesOf}
+use Rattle.mr_layout.proofs.Common.{map, take, AreTypesOf}
 use Rattle.mr_layout.proofs.cache.Cache.new.Given as goal
 
 abbrev pub invariant-loop-t : goal.invariant-loop-t

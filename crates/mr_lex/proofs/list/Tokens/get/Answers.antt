@@ -1,8 +1,6 @@
-use Rattle.std.proofs.Common.{length, sym, ap, ◌∙◌}
-use Rattle.std.specs.Prelude.{Some, slice_get}
+use Rattle.mr_lex.proofs.Common.{length, sym, ap, ◌∙◌, Some, slice_get, lexeme_in}
 use Rattle.std.specs.Option.{option_map}
 use Rattle.std.proofs.lemmas.Option.{slice_get-map}
-use Rattle.mr_lex.specs.Spans.{lexeme_in}
 use Rattle.mr_lex.proofs.SpanLaws.{between_at, span_read}
 use Rattle.mr_lex.proofs.list.Tokens.get.Goals as goal
 

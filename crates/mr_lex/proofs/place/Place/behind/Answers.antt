@@ -1,6 +1,5 @@
-use Rattle.std.proofs.Common.{◌≡◌, ◌+◌, true, false, get_or, sym, ap, ◌∙◌, arith}
+use Rattle.mr_lex.proofs.Common.{◌≡◌, ◌+◌, true, false, get_or, sym, ap, ◌∙◌, arith, is_inline}
 use Rattle.std.proofs.lemmas.Bool.{eq-eqb, ne_eqb, not_from_true, not_from_false}
-use Rattle.mr_lex.specs.Bytes.{is_inline}
 use Rattle.mr_lex.specs.Places.{line_of, column_of}
 use Rattle.mr_lex.proofs.PlaceLaws.{column_of-le, line_of-feed, column_of-feed, inline_stays, feed_alone}
 use Rattle.mr_lex.proofs.place.Place.behind.Goals as goal

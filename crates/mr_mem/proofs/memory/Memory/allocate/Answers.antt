@@ -1,10 +1,8 @@
-use Rattle.std.proofs.Common.{◌≡◌, ap, ◌∙◌, true, rules, List, replicate}
-use Rattle.std.specs.FinMap as fin
-use Rattle.mr_base.specs.declared.byte.AbstractByte.{AbstractByte}
+use Rattle.mr_mem.proofs.Common.{◌≡◌, ap, ◌∙◌, true, List, replicate, AbstractByte, Stored, pick_fault, allocation_of, memory_of}
+use Rattle.std.proofs.Common.{rules}
 use Rattle.mr_base.specs.declared.byte.AbstractByte.TheVariants.{Uninit}
-use Rattle.mr_mem.specs.declared.memory.Stored.{Stored}
-use Rattle.mr_mem.specs.Memory.{held, pick_fault}
-use Rattle.mr_mem.specs.Stored.{allocation_of, memory_of}
+use Rattle.mr_mem.specs.Memory.{held}
+use Rattle.std.specs.FinMap as fin
 use Rattle.mr_mem.proofs.IndexLaws.{lawful_free}
 use Rattle.mr_mem.proofs.memory.Memory.allocate.Goals as goal
 

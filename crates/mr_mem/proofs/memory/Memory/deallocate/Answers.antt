@@ -1,4 +1,4 @@
-use Rattle.mr_mem.specs.Stored.{memory_of}
+use Rattle.mr_mem.proofs.Common.{memory_of}
 use Rattle.mr_mem.proofs.IndexLaws.{ended_indexed}
 use Rattle.mr_mem.proofs.memory.Memory.deallocate.Goals as goal
 

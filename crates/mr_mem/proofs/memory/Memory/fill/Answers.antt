@@ -1,5 +1,4 @@
-use Rattle.std.proofs.Common.{replicate}
-use Rattle.mr_mem.specs.Stored.{memory_of}
+use Rattle.mr_mem.proofs.Common.{replicate, memory_of}
 use Rattle.mr_mem.proofs.IndexLaws.{same_ranges_indexed}
 use Rattle.mr_mem.proofs.RangeLaws.{ranges-stored}
 use Rattle.mr_mem.proofs.memory.Memory.fill.Goals as goal

@@ -1,6 +1,4 @@
-use Rattle.std.proofs.Common.{ap, ◌∙◌}
-use Rattle.mr_mem.specs.Memory.{first_overlapped, ranges_of}
-use Rattle.mr_mem.specs.Stored.{memory_of}
+use Rattle.mr_mem.proofs.Common.{ap, ◌∙◌, first_overlapped, ranges_of, memory_of}
 use Rattle.mr_mem.proofs.IndexLaws.{first_found}
 use Rattle.mr_mem.proofs.memory.Memory.first_shared.Goals as goal
 

@@ -1,5 +1,5 @@
+use Rattle.mr_mem.proofs.Common.{memory_of}
 use Rattle.mr_runs.specs.Numbers.{with_provenance}
-use Rattle.mr_mem.specs.Stored.{memory_of}
 use Rattle.mr_mem.proofs.IndexLaws.{same_ranges_indexed}
 use Rattle.mr_mem.proofs.RangeLaws.{ranges-stored}
 use Rattle.mr_mem.proofs.memory.Memory.store_numbers.Goals as goal

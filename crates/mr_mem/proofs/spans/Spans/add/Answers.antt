@@ -1,5 +1,4 @@
-use Rattle.std.proofs.Common.{sym, subst, Some}
-use Rattle.mr_mem.specs.Spans.{IsFree, Puts, Taken}
+use Rattle.mr_mem.proofs.Common.{sym, subst, Some, IsFree, Puts, Taken}
 use Rattle.mr_mem.proofs.SpanLaws.{apart_added, puts_from}
 use Rattle.mr_mem.proofs.spans.Spans.add.Goals as goal
 

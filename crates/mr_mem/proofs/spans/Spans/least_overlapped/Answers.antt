@@ -1,5 +1,4 @@
-use Rattle.std.proofs.Common.{subst}
-use Rattle.mr_mem.specs.Spans.{IsLeast, IsOverlapped, Taken}
+use Rattle.mr_mem.proofs.Common.{subst, IsLeast, IsOverlapped, Taken}
 use Rattle.mr_mem.proofs.SpanLaws.{none_overlapped}
 use Rattle.mr_mem.proofs.spans.Spans.least_overlapped.Goals as goal
 

@@ -1,5 +1,4 @@
-use Rattle.std.proofs.Common.{subst, None}
-use Rattle.mr_mem.specs.Spans.{Puts, Taken}
+use Rattle.mr_mem.proofs.Common.{subst, None, Puts, Taken}
 use Rattle.mr_mem.proofs.SpanLaws.{apart_removed, puts_from}
 use Rattle.mr_mem.proofs.spans.Spans.remove.Goals as goal
 

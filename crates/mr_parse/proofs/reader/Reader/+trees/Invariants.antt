@@ -1,7 +1,4 @@
-use Rattle.std.proofs.Common.{◌≡◌, ◌+◌, ◌-◌, ◌*◌, codes}
-use Rattle.mr_ast.specs.Writing.{other_than}
-use Rattle.mr_ast.specs.TypeGrammar.{case_form, cases_form}
-use Rattle.mr_grammar.specs.Reading.{read, many_at}
+use Rattle.mr_parse.proofs.Common.{◌≡◌, ◌+◌, ◌-◌, ◌*◌, codes, other_than, case_form, cases_form, read, many_at}
 use Rattle.mr_parse.proofs.Walk.LoopLaws.{with_front}
 use Rattle.mr_parse.proofs.reader.Reader.+trees.Given as goal
 

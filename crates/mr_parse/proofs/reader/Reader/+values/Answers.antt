@@ -1,10 +1,7 @@
-use Rattle.std.proofs.Common.{◌≡◌, ◌-◌, length, refl, sym, arith}
-use Rattle.std.proofs.lemmas.Result.{err_from_is_err_and}
-use Rattle.mr_ast.specs.Forms.{Part}
-use Rattle.mr_ast.specs.Writing.{TheValue}
+use Rattle.mr_parse.proofs.Common.{◌≡◌, ◌-◌, refl, sym, arith, err_from_is_err_and, Part, TheValue, with_all, read, read_outside}
+use Rattle.std.proofs.Common.{length}
 use Rattle.mr_ast.specs.ValueGrammar.{begins_postfix, more_values_form, postfix_form, postfixes_form}
-use Rattle.mr_parse.specs.Postfixes.{postfix_of, with_all}
-use Rattle.mr_grammar.specs.Reading.{read, read_outside}
+use Rattle.mr_parse.specs.Postfixes.{postfix_of}
 use Rattle.mr_parse.proofs.Walk.PostfixLaws.{postfix_goes_on, postfix_stops, postfix_is_done, postfix_is_past}
 use Rattle.mr_parse.proofs.Walk.LoopLaws.{comma_pushed_goes_on, comma_pushed_stops, comma_is_done, comma_is_past}
 use Rattle.mr_parse.proofs.reader.Reader.+values.Goals as goal

@@ -1,9 +1,5 @@
-use Rattle.std.proofs.Common.{◌≡◌, ◌+◌, ◌-◌, ◌*◌, codes}
-use Rattle.mr_ast.specs.Forms.{Part}
-use Rattle.mr_ast.specs.Writing.{TheValue, ◌▸◌, is_word}
+use Rattle.mr_parse.proofs.Common.{◌≡◌, ◌+◌, ◌-◌, ◌*◌, codes, Part, TheValue, ◌▸◌, is_word, with_all, read, read_outside, many_at}
 use Rattle.mr_ast.specs.ValueGrammar.{begins_postfix, more_values_form, postfix_form, postfixes_form}
-use Rattle.mr_parse.specs.Postfixes.{with_all}
-use Rattle.mr_grammar.specs.Reading.{read, read_outside, many_at}
 use Rattle.mr_parse.proofs.Walk.LoopLaws.{with_front}
 use Rattle.mr_parse.proofs.reader.Reader.+values.Given as goal
 

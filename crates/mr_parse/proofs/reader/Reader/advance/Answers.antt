@@ -1,4 +1,4 @@
-use Rattle.std.proofs.Common.{◌∙◌, arith}
+use Rattle.mr_parse.proofs.Common.{◌∙◌, arith}
 use Rattle.mr_words.proofs.PlaceLaws.{words_next, none_past}
 use Rattle.mr_parse.proofs.reader.Reader.advance.Goals as goal
 

@@ -1,6 +1,4 @@
-use Rattle.std.proofs.Common.{List, subst}
-use Rattle.mr_clocks.specs.Tracked.{Tracks}
-use Rattle.mr_event.specs.Footprint.{Footprint}
+use Rattle.mr_run.proofs.Common.{List, subst, Tracks, Footprint}
 use Rattle.mr_run.proofs.clocked.Clocked.order.Goals as goal
 
 pub returns : goal.returns

@@ -1,6 +1,4 @@
-use Rattle.std.proofs.Common.{◌≡◌, ◌++◌, ◌∷◌, [], ◌∙◌, List, ap, arith, length, subst}
-use Rattle.std.specs.Prelude.{OnErr, OnOk}
-use Rattle.mr_event.specs.Footprint.{Footprint}
+use Rattle.mr_run.proofs.Common.{◌≡◌, ◌++◌, ◌∷◌, [], ◌∙◌, List, ap, arith, length, subst, OnErr, OnOk, Footprint}
 use Rattle.mr_run.proofs.clocked.ClockedRecord.keep.Goals as goal
 
 pub join-requires-clause-few : goal.join-requires-clause-few

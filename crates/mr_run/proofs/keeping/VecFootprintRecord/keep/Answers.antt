@@ -1,6 +1,4 @@
-use Rattle.std.proofs.Common.{◌≡◌, ◌++◌, ◌∷◌, [], List, subst}
-use Rattle.std.specs.Prelude.{OnErr, OnOk}
-use Rattle.mr_event.specs.Footprint.{Footprint}
+use Rattle.mr_run.proofs.Common.{◌≡◌, ◌++◌, ◌∷◌, [], List, subst, OnErr, OnOk, Footprint}
 use Rattle.mr_run.proofs.keeping.VecFootprintRecord.keep.Goals as goal
 
 pub returns-clause-ok : goal.returns-clause-ok

@@ -1,9 +1,4 @@
-use Rattle.std.proofs.Common.{◌≡◌, ◌∙◌, ℕ, List, length, map, sym, ap, subst, arith}
-use Rattle.std.proofs.lemmas.List.{with_items_is}
-use Rattle.mr_runs.specs.Contents.{piece_of_content}
-use Rattle.mr_runs.specs.Numbers.{number_of, IsInPlace}
-use Rattle.mr_runs.specs.Pieces.{SeenPiece, InitPiece, bytes_of_piece}
-use Rattle.mr_runs.specs.Ranges.{with_range_replaced}
+use Rattle.mr_runs.proofs.Common.{◌≡◌, ◌∙◌, ℕ, List, length, map, sym, ap, subst, arith, with_items_is, piece_of_content, number_of, IsInPlace, SeenPiece, InitPiece, bytes_of_piece, with_range_replaced}
 use Rattle.mr_runs.proofs.InPlaceLaws.{bytes_put, len_put}
 use Rattle.mr_runs.proofs.run.Run+Vec+u8.put.Goals as goal
 

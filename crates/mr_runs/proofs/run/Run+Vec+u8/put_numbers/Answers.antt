@@ -1,9 +1,4 @@
-use Rattle.std.proofs.Common.{◌≡◌, ◌∙◌, ℕ, List, length, sym, ap, subst, arith}
-use Rattle.std.proofs.lemmas.List.{with_items_is}
-use Rattle.mr_runs.specs.Contents.{piece_of_content}
-use Rattle.mr_runs.specs.Numbers.{with_numbers_at, TakesNumbers}
-use Rattle.mr_runs.specs.Pieces.{SeenPiece, InitPiece}
-use Rattle.mr_runs.specs.Ranges.{with_range_replaced}
+use Rattle.mr_runs.proofs.Common.{◌≡◌, ◌∙◌, ℕ, List, length, sym, ap, subst, arith, with_items_is, piece_of_content, with_numbers_at, TakesNumbers, SeenPiece, InitPiece, with_range_replaced}
 use Rattle.mr_runs.proofs.RangeLaws.{length-with_range_replaced}
 use Rattle.mr_runs.proofs.run.Run+Vec+u8.put_numbers.Goals as goal
 

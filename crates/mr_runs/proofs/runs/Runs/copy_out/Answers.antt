@@ -1,7 +1,5 @@
-use Rattle.std.proofs.Common.{◌≡◌, get_or}
-use Rattle.std.proofs.lemmas.List.{take_more}
+use Rattle.mr_runs.proofs.Common.{◌≡◌, get_or, take_more, bytes_of_pieces}
 use Rattle.std.proofs.lemmas.Option.{slice_get_within, get_or_from_slice_get}
-use Rattle.mr_runs.specs.Pieces.{bytes_of_pieces}
 use Rattle.mr_runs.proofs.runs.Runs.copy_out.Goals as goal
 
 pub loop-at-preserved : goal.loop-at-preserved

@@ -1,5 +1,4 @@
-use Rattle.std.proofs.Common.{◌≡◌, take}
-use Rattle.mr_runs.specs.Pieces.{bytes_of_pieces}
+use Rattle.mr_runs.proofs.Common.{◌≡◌, take, bytes_of_pieces}
 use Rattle.mr_runs.proofs.runs.Runs.copy_out.Given as goal
 
 abbrev pub invariant-loop-at : goal.invariant-loop-at

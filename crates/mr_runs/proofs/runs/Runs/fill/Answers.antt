@@ -1,9 +1,4 @@
-use Rattle.std.proofs.Common.{◌≡◌, ◌∙◌, List, replicate, sym, ap}
-use Rattle.std.proofs.lemmas.Result.{on_ok_weaker}
-use Rattle.mr_base.specs.declared.byte.AbstractByte.{AbstractByte}
-use Rattle.mr_base.specs.declared.byte.AbstractByte.TheVariants.{Init}
-use Rattle.mr_runs.specs.Numbers.{with_provenance}
-use Rattle.mr_runs.specs.Ranges.{with_range_replaced}
+use Rattle.mr_runs.proofs.Common.{◌≡◌, ◌∙◌, List, replicate, sym, ap, on_ok_weaker, AbstractByte, Init, with_provenance, with_range_replaced}
 use Rattle.mr_runs.proofs.RangeLaws.{map_repeated}
 use Rattle.mr_runs.proofs.runs.Runs.fill.Goals as goal
 

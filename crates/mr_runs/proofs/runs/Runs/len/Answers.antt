@@ -1,4 +1,4 @@
-use Rattle.std.proofs.Common.{◌∙◌, length, sym, ap}
+use Rattle.mr_runs.proofs.Common.{◌∙◌, length, sym, ap}
 use Rattle.mr_runs.proofs.StampLaws.{sound_length}
 use Rattle.mr_runs.proofs.runs.Runs.len.Goals as goal
 

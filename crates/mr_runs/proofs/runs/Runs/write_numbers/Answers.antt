@@ -1,8 +1,4 @@
-use Rattle.std.proofs.Common.{◌∙◌, List, length, ap, arith}
-use Rattle.std.proofs.lemmas.Result.{on_err_weaker, on_ok_weaker}
-use Rattle.mr_base.specs.declared.byte.AbstractByte.{AbstractByte}
-use Rattle.mr_runs.specs.Numbers.{with_provenance}
-use Rattle.mr_runs.specs.Ranges.{with_range_replaced}
+use Rattle.mr_runs.proofs.Common.{◌∙◌, List, length, ap, arith, on_err_weaker, on_ok_weaker, AbstractByte, with_provenance, with_range_replaced}
 use Rattle.mr_runs.proofs.KeptLaws.{sound_after}
 use Rattle.mr_runs.proofs.StampLaws.{sound_length}
 use Rattle.mr_runs.proofs.runs.Runs.write_numbers.Goals as goal

@@ -1,6 +1,4 @@
-use Rattle.std.proofs.Common.{List, length, ap, arith}
-use Rattle.std.specs.Prelude.{option_copied}
-use Rattle.mr_runs.specs.Pieces.{SeenPiece, bytes_of_pieces}
+use Rattle.mr_runs.proofs.Common.{List, length, ap, arith, option_copied, SeenPiece, bytes_of_pieces}
 use Rattle.mr_runs.proofs.ViewLaws.{lent_len}
 use Rattle.mr_runs.proofs.views.View.byte.Goals as goal
 

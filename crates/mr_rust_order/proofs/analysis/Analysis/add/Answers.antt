@@ -1,11 +1,4 @@
-use Rattle.std.proofs.Common.{◌≡◌, ◌+◌, List, ℕ, ap, sym, ◌∙◌, subst, arith}
-use Rattle.mr_event.specs.Footprint.{Footprint}
-use Rattle.mr_event.specs.Order.{thread_at}
-use Rattle.mr_rust_order.specs.Channels.{AreSent, clock_at, to_joiners, to_lock, to_thread}
-use Rattle.mr_rust_order.specs.Clocks.{IsRaised}
-use Rattle.mr_rust_order.specs.Memos.{AreMemos}
-use Rattle.mr_rust_order.specs.declared.rows.Row.{Row}
-use Rattle.mr_rust_order.specs.Rows.{AreNoted, AreRows}
+use Rattle.mr_rust_order.proofs.Common.{◌≡◌, ◌+◌, List, ℕ, ap, sym, ◌∙◌, subst, arith, Footprint, thread_at, AreSent, clock_at, to_joiners, to_lock, to_thread, IsRaised, AreMemos, Row, AreNoted, AreRows}
 use Rattle.mr_rust_order.proofs.ChannelLaws.{channels_more, sent_own, thread_clock}
 use Rattle.mr_rust_order.proofs.ClockLaws.{clock_behind, raise_raised, raised_on}
 use Rattle.mr_rust_order.proofs.MemoLaws.{memos_kept}

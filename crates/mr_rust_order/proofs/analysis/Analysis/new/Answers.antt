@@ -1,7 +1,4 @@
-use Rattle.std.proofs.Common.{List, length, ap, sym, subst, arith}
-use Rattle.mr_rust_order.specs.Channels.{to_joiners, to_lock, to_thread}
-use Rattle.mr_rust_order.specs.Memos.{AreMemos}
-use Rattle.mr_rust_order.specs.declared.rows.Row.{Row}
+use Rattle.mr_rust_order.proofs.Common.{List, length, ap, sym, subst, arith, to_joiners, to_lock, to_thread, AreMemos, Row}
 use Rattle.mr_rust_order.proofs.ChannelLaws.{channels_none}
 use Rattle.mr_rust_order.proofs.RowLaws.{rows_none}
 use Rattle.mr_rust_order.proofs.analysis.Analysis.new.Goals as goal

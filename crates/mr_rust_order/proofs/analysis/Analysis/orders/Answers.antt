@@ -1,8 +1,4 @@
-use Rattle.std.proofs.Common.{◌≡◌, List, ℕ, slice_index, ap, ◌∙◌, subst, arith}
-use Rattle.std.proofs.lemmas.Bool.{lt-ltb, ltb-true}
-use Rattle.mr_event.specs.Order.{thread_at}
-use Rattle.mr_rust_order.specs.Channels.{clock_at}
-use Rattle.mr_rust_order.specs.Clocks.{IsJoin}
+use Rattle.mr_rust_order.proofs.Common.{◌≡◌, List, ℕ, slice_index, ap, ◌∙◌, subst, arith, lt-ltb, ltb-true, thread_at, clock_at, IsJoin}
 use Rattle.mr_rust_order.proofs.ChannelLaws.{thread_joined}
 use Rattle.mr_rust_order.proofs.analysis.Analysis.orders.Goals as goal
 

@@ -1,13 +1,7 @@
-use Rattle.std.proofs.Common.{◌≡◌, Some, subst, sym}
-use Rattle.mr_ast.specs.declared.program.Program.{Program}
-use Rattle.mr_plan.specs.Machine.{State, needs}
+use Rattle.mr_step.proofs.Common.{◌≡◌, Some, subst, sym, Program, State, needs, Look, Own, thread_step, IsSound, config_of, setting_look, state_of, Standing}
 use Rattle.mr_sync.specs.Tables.{IsEnabled}
-use Rattle.mr_frame.specs.Frames.{Look}
 use Rattle.mr_plan.specs.Queries.{tables_of}
-use Rattle.mr_exchange.specs.StartSteps.{Own, thread_step}
 use Rattle.mr_turn.specs.Asking.{AsksAnswer}
-use Rattle.mr_step.specs.Kept.{IsSound, config_of, setting_look, state_of}
-use Rattle.mr_step.specs.Standing.{Standing}
 use Rattle.mr_step.proofs.AskLaws.{state_there}
 use Rattle.mr_step.proofs.machine.Machine.asks.Goals as goal
 

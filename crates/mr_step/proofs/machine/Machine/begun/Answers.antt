@@ -1,7 +1,5 @@
-use Rattle.std.proofs.Common.{false, ap, ◌∙◌, subst, arith, length}
-use Rattle.mr_ast.specs.declared.program.Program.{Program}
+use Rattle.mr_step.proofs.Common.{false, ap, ◌∙◌, subst, arith, length, Program, config_of}
 use Rattle.mr_typing.specs.Walk.{WellFormed}
-use Rattle.mr_step.specs.Kept.{config_of}
 use Rattle.mr_step.proofs.FirstLaws.{first_sound, first_within, functions_are, globals_are}
 use Rattle.mr_step.proofs.machine.Machine.begun.Goals as goal
 

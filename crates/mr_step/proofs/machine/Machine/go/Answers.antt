@@ -1,17 +1,9 @@
-use Rattle.std.proofs.Common.{◌<◌, ◌^◌, ◌∙◌, Err, Ok, ap, refl, sym, subst, true}
-use Rattle.mr_ast.specs.declared.program.Program.{Program}
-use Rattle.mr_frame.specs.Frames.{Look}
+use Rattle.mr_step.proofs.Common.{◌<◌, ◌∙◌, Err, Ok, ap, refl, sym, subst, true, Program, Look, Advances, Stays, GoAnswer, fault_of, IsSound, config_of, setting_look, Standing, AreWithin, Config, Own}
+use Rattle.std.proofs.Common.{◌^◌}
 use Rattle.mr_event.specs.Order.{no_step}
-use Rattle.mr_step.specs.Advance.{Advances, Stays}
 use Rattle.mr_step.specs.declared.fault.StepFault.TheVariants as answer
-use Rattle.mr_step.specs.Answers.{GoAnswer, fault_of}
-use Rattle.mr_step.specs.Kept.{IsSound, config_of, setting_look}
-use Rattle.mr_step.specs.Standing.{Standing}
 use Rattle.mr_step.proofs.HandLaws.{gone_on}
 use Rattle.mr_step.proofs.SoundLaws.{advanced_ok, advanced_sound}
-use Rattle.mr_plan.specs.Limits.{AreWithin}
-use Rattle.mr_plan.specs.Runs.{Config}
-use Rattle.mr_exchange.specs.StartSteps.{Own}
 use Rattle.mr_step.proofs.machine.Machine.go.Goals as goal
 
 pub advance-requires : goal.advance-requires

@@ -1,6 +1,4 @@
-use Rattle.std.proofs.Common.{Err, Ok, sym, subst, ◌∙◌}
-use Rattle.mr_step.specs.Answers.{StepAnswer}
-use Rattle.mr_step.specs.Standing.{Standing}
+use Rattle.mr_step.proofs.Common.{Err, Ok, sym, subst, ◌∙◌, StepAnswer, Standing}
 use Rattle.mr_step.proofs.HandLaws.{handed, more_steps, unhanded}
 use Rattle.mr_step.proofs.machine.Machine.step.Goals as goal
 

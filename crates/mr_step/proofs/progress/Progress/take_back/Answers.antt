@@ -1,6 +1,5 @@
-use Rattle.std.proofs.Common.{◌∙◌, ap, arith, map, refl, sym}
+use Rattle.mr_step.proofs.Common.{◌∙◌, ap, arith, map, refl, sym, printed_of}
 use Rattle.std.proofs.lemmas.List.{take-map}
-use Rattle.mr_step.specs.Kept.{printed_of}
 use Rattle.mr_step.proofs.progress.Progress.take_back.Goals as goal
 
 pub returns : goal.returns

@@ -1,5 +1,4 @@
-use Rattle.std.proofs.Common.{◌≡◌, ◌↔◌, IsTrue, sym, ◌∙◌, rules, tests}
-use Rattle.mr_typing.specs.Known.{ty_of}
+use Rattle.mr_typing.proofs.Common.{◌≡◌, ◌↔◌, IsTrue, sym, ◌∙◌, rules, tests, ty_of}
 use Rattle.mr_typing.proofs.KnownLaws.{int_told, int_untold}
 use Rattle.mr_typing.proofs.known.Known.is_int.Goals as goal
 

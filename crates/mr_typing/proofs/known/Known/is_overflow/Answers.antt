@@ -1,9 +1,7 @@
-use Rattle.std.proofs.Common.{◌≡◌, ◌↔◌, IsTrue, false, inl, inr, sym, ap, ◌∙◌, rules, tests}
-use Rattle.mr_ast.specs.declared.types.Ty.TheVariants as ty
+use Rattle.mr_typing.proofs.Common.{◌≡◌, ◌↔◌, IsTrue, false, sym, ap, ◌∙◌, rules, tests, same_type, overflow_type, ty_of}
+use Rattle.std.proofs.Common.{inl, inr}
 use Rattle.mr_typing.specs.declared.known.Known.{Known}
-use Rattle.mr_typing.specs.SameTypes.{same_type}
-use Rattle.mr_typing.specs.Types.{overflow_type}
-use Rattle.mr_typing.specs.Known.{ty_of}
+use Rattle.mr_ast.specs.declared.types.Ty.TheVariants as ty
 use Rattle.mr_typing.proofs.KnownLaws.{bool_no_overflow, fn_ptr_no_overflow, int_no_overflow, overflow_answer, raw_no_overflow, same_as_overflow}
 use Rattle.mr_typing.proofs.known.Known.is_overflow.Goals as goal
 

@@ -1,7 +1,5 @@
-use Rattle.std.proofs.Common.{sym, ap, ◌∙◌}
+use Rattle.mr_typing.proofs.Common.{sym, ap, ◌∙◌, same_type, ty_of}
 use Rattle.mr_typing.specs.declared.known.Known.{Known}
-use Rattle.mr_typing.specs.SameTypes.{same_type}
-use Rattle.mr_typing.specs.Known.{ty_of}
 use Rattle.mr_typing.proofs.SameTypeLaws.{same_type_answer}
 use Rattle.mr_typing.proofs.known.Known.is_written.Goals as goal
 

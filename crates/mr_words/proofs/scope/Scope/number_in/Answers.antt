@@ -1,8 +1,7 @@
-use Rattle.std.proofs.Common.{◌≡◌, ◌+◌, ℕ, List, Bool, Option, Some, None, Result, bytes_eq, if◌then◌else◌, length, sym, ap, subst, ◌∙◌}
-use Rattle.std.specs.List.{position_or_len}
+use Rattle.mr_words.proofs.Common.{◌≡◌, ◌+◌, ℕ, List, Bool, Option, Some, None, bytes_eq, if◌then◌else◌, length, sym, ap, subst, ◌∙◌, position_or_len, Definitions, as_function, as_global, is_number, names_of, number_in, number_of_name, used_in}
+use Rattle.std.proofs.Common.{Result}
 use Rattle.mr_ast.specs.declared.words.Role.{Role}
 use Rattle.mr_ast.specs.declared.words.Role.TheVariants.{DefinesGlobal, DefinesFunction, DefinesLocal, DefinesBlock, UsesGlobal, UsesFunction, UsesLocal, UsesBlock}
-use Rattle.mr_ast.specs.Scope.{Definitions, as_function, as_global, is_number, names_of, number_in, number_of_name, used_in}
 use Rattle.mr_words.specs.Naming.{known_names}
 use Rattle.mr_words.specs.Numbers.{Numbers}
 use Rattle.mr_words.proofs.NamingLaws.{block_named, item_named, local_named}

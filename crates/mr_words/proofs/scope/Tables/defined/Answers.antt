@@ -1,6 +1,4 @@
-use Rattle.std.proofs.Common.{◌≡◌, Some, None, bytes_eq, position, sym, ap, ◌∙◌}
-use Rattle.std.specs.List.{list_any, position_or_len}
-use Rattle.mr_ast.specs.Scope.{all_names, names_of}
+use Rattle.mr_words.proofs.Common.{◌≡◌, Some, None, bytes_eq, position, sym, ap, ◌∙◌, list_any, position_or_len, all_names, names_of}
 use Rattle.mr_words.proofs.NamingLaws.{position_from_among}
 use Rattle.mr_words.proofs.ScopeLaws.{once-any}
 use Rattle.mr_words.proofs.scope.Tables.defined.Goals as goal
