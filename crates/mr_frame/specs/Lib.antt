@@ -24,8 +24,6 @@ pub use Rattle.mr_eval.specs.Shapes as EvalShapes
 pub use Rattle.mr_eval.specs.Sound as EvalSound
 pub use Rattle.mr_eval.specs.Tally as EvalTally
 pub use Rattle.mr_mem.specs.Memory as MemMemory
-pub use Rattle.mr_plan.specs.EvalMemoryQueries as PlanEvalMemoryQueries
-pub use Rattle.mr_plan.specs.EvalTally as PlanEvalTally
 pub use Rattle.mr_plan.specs.EventFootprint
 pub use Rattle.mr_plan.specs.Legal as PlanLegal
 pub use Rattle.mr_plan.specs.Limits as PlanLimits
