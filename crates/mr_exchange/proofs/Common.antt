@@ -48,7 +48,7 @@ pub use Rattle.mr_start.specs.FrameCalls.{enter, kept_types, resume, return_from
 unfoldable pub use Rattle.mr_start.specs.FrameCalls.{callee_of}
 pub use Rattle.mr_start.specs.FrameFits.{IsLook}
 pub use Rattle.mr_start.specs.FrameFrames.{GoesOn, Look, Onward, scene_in, Stack}
-pub use Rattle.mr_start.specs.PlanEvalTally.{Tally}
+pub use Rattle.mr_start.specs.EvalTally.{Tally}
 pub use Rattle.mr_start.specs.PlanLegal.{count_of, else_fault, fault, picks_fault, state_fault}
 pub use Rattle.mr_start.specs.PlanMachine.{Aborts, bare, Completed, CreatesLock, CreatesNothing, CreatesThread, Creation, Exits, Flow, Goes, Language, Needs, needs, State, Thread, thread_of}
 pub use Rattle.mr_start.specs.PlanNotes.{event_of, foot_of, Notes, start_notes}

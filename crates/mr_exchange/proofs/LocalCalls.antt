@@ -2,7 +2,7 @@
 use Rattle.mr_exchange.proofs.Common.{◌≡◌, ◌≢◌, ℕ, ◌+◌, refl, sym, ap, ◌∙◌, subst, List, [], ◌∷◌, ◌++◌, length, inl, inr, Option, Some, None, Ok, Bool, true, false, Any, slice_get, slice_set, option_map, cases_eq, length-map, length-set, length_push, Acquire, CreateLock, Join, Release, Spawn, Status, Enabled, Ended, OnJoin, OnLock, Memory, Went, on, goes_on, any_waiting, any_waits, handed, joiners, on_join, on_lock, over, wake, Tally, Notes, Await, Finish, NewLock, OfMemory, Print, Query, Reply, Shared, Start, TryLock, Unlock, Waiting, answer, blocked, in_shared, note, tables_of, woke, at_outcome, ActsOn, At, Holder, InMemory, IsCreation, IsGoing, IsSpawn, LockCount, Over, Reads, Spot, ThreadCount, WaitsJoin, WaitsLock, Writes, at_spot}
 use Rattle.std.proofs.lemmas.List.Quantifiers.{Any-push}
 use Rattle.mr_base.proofs.ScriptSwaps.{IsLocal}
-use Rattle.mr_start.specs.PlanEvalMemoryQueries.{MemoryQuery, memory_answer}
+use Rattle.mr_start.specs.EvalMemoryQueries.{MemoryQuery, memory_answer}
 use Rattle.mr_start.specs.PlanPlaces.{MemoryPlace}
 use Rattle.mr_start.proofs.PlanMemoryLocal.{memory_local}
 use Rattle.mr_start.proofs.PlanMemoryMoves.{IsMove, MovesAt}

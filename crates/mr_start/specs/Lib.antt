@@ -16,8 +16,6 @@ pub use Rattle.mr_frame.specs.Changes as FrameChanges
 pub use Rattle.mr_frame.specs.Fits as FrameFits
 pub use Rattle.mr_frame.specs.Frames as FrameFrames
 pub use Rattle.mr_frame.specs.Operations as FrameOperations
-pub use Rattle.mr_frame.specs.EvalMemoryQueries as PlanEvalMemoryQueries
-pub use Rattle.mr_frame.specs.EvalTally as PlanEvalTally
 pub use Rattle.mr_frame.specs.PlanLegal
 pub use Rattle.mr_frame.specs.PlanLimits
 pub use Rattle.mr_frame.specs.PlanMachine
