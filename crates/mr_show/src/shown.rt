@@ -317,7 +317,7 @@ fn ran_stands(
     )
 }
 
-// Whether a part tells of races alone.
+// Whether a part tells of races alone. One of which it says no is told in the same way, with more kept of the run.
 fn lists_races(part: Part) -> bool
     ensures { IsTrue result → IsOfRaces part }
 {
