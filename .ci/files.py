@@ -49,8 +49,8 @@ def sources():
 
 
 def naming(texts, words, crates):
-    """The files that have one of the words."""
-    word, each = re.compile(rf"\b(?:{words})\b"), words.split("|")
+    """The files that have one of the words, other than as the name of a file of definitions."""
+    word, each = re.compile(rf"(?<!specs\.)\b(?:{words})\b"), words.split("|")
     has = lambda text: any(it in text for it in each) and word.search(text)
     return sorted(key for key, text in texts.items() if (not crates or key[0] in crates) and has(text))
 

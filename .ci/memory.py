@@ -31,7 +31,7 @@ CONDITION = re.compile(r"\s*(\} )?(if|else|for|while|loop|let)\b")
 # The calls that fail for want of memory alone, of which an arm `Err(_)` is taken: the function, and the line that
 # matches. (The steps and the start among them are those of a run that is legal.)
 ALLOCATING = {
-    ("typed", "match types(alloc, e, args) {"),
+    ("typed", "match types(e, args, spare) {"),
     ("refuse", "match refusal.text(alloc) {"),
     ("answered", "match written {"),
     ("read", "match into.extend_from_slice(bytes) {"),

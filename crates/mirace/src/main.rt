@@ -12,7 +12,7 @@ ghost use Rattle.mr_io.specs.Counts.{Rose};
 ghost use Rattle.mr_io.specs.Files.{Contents};
 ghost use Rattle.mr_sched.specs.declared.schedule.Schedule.{Schedule as Recorded};
 ghost use Rattle.mr_sched.specs.declared.version.Version.{Version};
-ghost use Rattle.mr_gen.specs.Generated.{generated};
+ghost use Rattle.mr_command.specs.GenGenerated.{generated};
 ghost use Rattle.mr_command.specs.AnswerAnswers.{big_answer, big_schedule};
 ghost use Rattle.mr_command.specs.Answer.{usage};
 ghost use Rattle.mr_command.specs.Command.{command_of, named_files, NamesProgram, OfNumber};

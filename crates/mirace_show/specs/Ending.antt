@@ -1,7 +1,7 @@
 -- What the words ask for, when the program ends.
 use Rattle.std.specs.Prelude.{◌≡◌, ℕ, List, Option, None, Some}
 use Rattle.mr_io.specs.Files.{Contents}
-use Rattle.mr_input.specs.Writing.{IsWritten}
+use Rattle.mr_show.specs.InputWriting.{IsWritten}
 use Rattle.mr_show.specs.Answer.{usage}
 use Rattle.mr_show.specs.Form.{form_of}
 use Rattle.mr_show.specs.Outcome.{Ends, EndsOverTexts}

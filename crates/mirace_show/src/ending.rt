@@ -3,7 +3,7 @@ ghost use Rattle.std.specs.Prelude.{◌≡◌, IfOk, IfErr, map, string_bytes};
 ghost use Rattle.std.specs.IoError.{error_kind};
 ghost use Rattle.std.specs.Process.{exit_status};
 ghost use Rattle.mr_io.specs.Counts.{Rose};
-ghost use Rattle.mr_input.specs.Ending.{IsEnd};
+ghost use Rattle.mr_show.specs.InputEnding.{IsEnd};
 ghost use Rattle.mirace_show.specs.Ending.{IsDone};
 
 use mr_io::{Caller, Files, Sink, wordless, words_of};

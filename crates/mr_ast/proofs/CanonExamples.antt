@@ -1,6 +1,7 @@
 -- Canonical words and texts of small things, computed.
-use Rattle.mr_ast.proofs.Common.{◌≡◌, ℕ, true, false, [], ◌∷◌, codes, refl, U8, I8, Num, Ty, num_words, words_of_type, NameTexts, words_of_place, words_of_value}
+use Rattle.mr_ast.proofs.Common.{◌≡◌, ℕ, true, false, [], ◌∷◌, codes, refl, Num, Ty, num_words, words_of_type, NameTexts, words_of_place, words_of_value}
 use Rattle.std.specs.Fmt.{digits}
+use Rattle.mr_ast.specs.declared.types.IntType.TheVariants.{U8, I8}
 use Rattle.mr_ast.specs.declared.expr.BinaryOp.TheVariants.{Add}
 use Rattle.mr_ast.specs.declared.program.BlockKind.TheVariants.{Regular}
 use Rattle.mr_ast.specs.declared.program.Program.{Program}

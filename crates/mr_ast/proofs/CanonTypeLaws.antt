@@ -1,5 +1,6 @@
 -- The equations of the canonical words of types, one for each kind of tree and type.
-use Rattle.mr_ast.proofs.Common.{◌≡◌, ℕ, suc, Bool, List, [], ◌∷◌, ◌++◌, length, map, refl, sym, ap, ◌∙◌, flat_map, codes, decimal, if◌then◌else◌, IntType, Num, Tree, Tree-F, fold-roll-Tree, Ty, roll-Ty, Ty-F, map-Ty, fold-Variant, fold-roll-Ty, fold-roll-Variant, Variant, out-Variant, Texts, int_word, num_words, words_of_type}
+use Rattle.mr_ast.proofs.Common.{◌≡◌, ℕ, suc, Bool, List, [], ◌∷◌, ◌++◌, length, map, refl, sym, ap, ◌∙◌, codes, decimal, if◌then◌else◌, IntType, Num, Tree, Tree-F, fold-roll-Tree, Ty, roll-Ty, Ty-F, map-Ty, fold-Variant, fold-roll-Ty, fold-roll-Variant, Variant, out-Variant, Texts, int_word, num_words, words_of_type}
+use Rattle.std.specs.Prelude.{flat_map}
 use Rattle.mr_ast.specs.CanonTypes.{braced, shape_words, chunk_words, case_row, tree_words_step, words_of_tree, field_row, is_unit, type_words_step, variant_words_step, case_words, field_words, variant_words}
 use Rattle.mr_ast.specs.declared.types.Tree.TheVariants as tree
 use Rattle.mr_ast.specs.declared.types.Ty.TheVariants as ty

@@ -1,5 +1,6 @@
 -- The equations of the canonical words of places and values, one for each kind.
-use Rattle.mr_ast.proofs.Common.{◌≡◌, ℕ, List, [], ◌∷◌, ◌++◌, sym, ap, ◌∙◌, flat_map, codes, decimal, IntType, Num, Ty, FnName, GlobalName, LocalName, UnaryOp, BinaryOp, Place, roll-Place, Value, roll-Value, Place-F, Value-F, map-Place, map-Value, fold-roll-Place, fold-roll-Value, Texts, int_word, num_words, words_of_type, NameTexts, text_at, unary_word, binary_word, words_of_place, words_of_value}
+use Rattle.mr_ast.proofs.Common.{◌≡◌, ℕ, List, [], ◌∷◌, ◌++◌, sym, ap, ◌∙◌, codes, decimal, IntType, Num, Ty, FnName, GlobalName, LocalName, UnaryOp, BinaryOp, Place, roll-Place, Value, roll-Value, Place-F, Value-F, map-Place, map-Value, fold-roll-Place, fold-roll-Value, Texts, int_word, num_words, words_of_type, NameTexts, text_at, unary_word, binary_word, words_of_place, words_of_value}
+use Rattle.std.specs.Prelude.{flat_map}
 use Rattle.mr_ast.specs.CanonValues.{place_words_step, value_words_step}
 use Rattle.mr_ast.specs.declared.expr.Place.TheVariants as place
 use Rattle.mr_ast.specs.declared.expr.Value.TheVariants as value

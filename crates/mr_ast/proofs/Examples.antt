@@ -1,7 +1,8 @@
 -- Small programs, and whether they are shaped.
-use Rattle.mr_ast.proofs.Common.{◌≡◌, ℕ, ◌<◌, true, false, [], ◌∷◌, inl, refl, sym, ◌∙◌, true≢false, arith, codes, U8, U64, Num, LocalName}
+use Rattle.mr_ast.proofs.Common.{◌≡◌, ℕ, ◌<◌, true, false, [], ◌∷◌, inl, refl, sym, ◌∙◌, true≢false, arith, codes, Num, LocalName}
 use Rattle.std.proofs.Common.{All, lit<, lit≤}
 use Rattle.std.proofs.lemmas.List.Elements.{All-cons, All-head}
+use Rattle.mr_ast.specs.declared.types.IntType.TheVariants.{U8, U64}
 use Rattle.mr_ast.specs.declared.program.BlockKind.TheVariants.{Regular}
 use Rattle.mr_ast.specs.declared.program.Global_.{Global_}
 use Rattle.mr_ast.specs.declared.program.Local.{Local}

@@ -1,7 +1,6 @@
 -- Texts that are held one after another: how one is added.
-use Rattle.mr_ast.proofs.Common.{◌≡◌, ◌≢◌, ℕ, zero, suc, ◌+◌, ◌≤◌, true, false, List, [], ◌∷◌, ◌++◌, length, slice_get, Some, refl, sym, ap, arith, inl, inr, bytes_eq, if◌then◌else◌, Texts}
-use Rattle.std.proofs.Common.{◌||◌, length-append}
-use Rattle.std.specs.List.{list_any}
+use Rattle.mr_ast.proofs.Common.{◌≡◌, ◌≢◌, ℕ, zero, suc, ◌+◌, true, false, List, [], ◌∷◌, ◌++◌, length, slice_get, Some, refl, sym, ap, arith, inl, inr, bytes_eq, if◌then◌else◌, list_any, Texts}
+use Rattle.std.proofs.Common.{◌≤◌, ◌||◌, length-append}
 use Rattle.std.proofs.lemmas.Bool.{false_from_ne_true}
 use Rattle.std.proofs.lemmas.Slice.Eq.{bytes_eq-Decides}
 use Rattle.mr_ast.specs.Names.{Adds}

@@ -1,6 +1,7 @@
--- Induction over trees, one case for each kind.
-use Rattle.mr_ast.proofs.Common.{ℕ, List, [], ◌∷◌, map, sym, subst, IntType, Num, Tree, roll-Tree, Tree-F, ind-Tree}
-use Rattle.mr_ast.specs.declared.types.Tree.TheFolds.{map-Tree}
+-- Induction over trees, one case for each kind, and what a tree is made of.
+use Rattle.mr_ast.proofs.Common.{◌≡◌, ℕ, List, [], ◌∷◌, map, sym, ap, subst, IntType, Num, Tree, Tree-F}
+use Rattle.mr_ast.specs.declared.types.Tree.{roll-Tree, out-Tree, out-roll-Tree}
+use Rattle.mr_ast.specs.declared.types.Tree.TheFolds.{map-Tree, ind-Tree}
 use Rattle.mr_ast.specs.declared.types.Tree.TheVariants as tree
 
 -- the tree of each case has the property
@@ -30,3 +31,10 @@ module _ (P : Tree → Type 0) (kinds : TreeCases P) where
 
   pub tree_induction : (t : Tree) → P t
   tree_induction = ind-Tree P (λ x y is. subst (λ z. P (roll-Tree z)) is (at_layer y))
+
+abbrev IsMade : Tree → Type 0
+IsMade t = roll-Tree (out-Tree t) ≡ t
+
+-- a tree is made of its layer
+pub tree_made : (t : Tree) → roll-Tree (out-Tree t) ≡ t
+tree_made = ind-Tree IsMade (λ x y is. ap roll-Tree (out-roll-Tree x))

@@ -1,4 +1,4 @@
--- The hashes of a text's names.
+-- The hashes of a text's names and types.
 use Rattle.std.specs.Prelude.{ℕ, List}
 use Rattle.std.specs.Hash.DefaultHasher as sip
 use Rattle.std.specs.declared.hash.DefaultHasher.{DefaultHasher}

@@ -1,4 +1,4 @@
-//! What the hashes of a text's names go by.
+//! What the hashes of a text's names and types go by.
 ghost use Rattle.std.specs.Prelude.{◌≡◌};
 ghost use Rattle.std.specs.Hash.DefaultHasher as sip;
 ghost use Rattle.mr_ast.specs.TextKey.{hasher_of_text};
@@ -6,8 +6,8 @@ ghost use Rattle.mr_ast.specs.TextKey.{hasher_of_text};
 use sha2::{Digest, Sha256};
 use std::hash::{BuildHasher, DefaultHasher, Hasher};
 
-/// A key for hashes: SipHash-1-3 that has taken the SHA-256 digest of a whole text. Whoever changes a name of the text changes
-/// the key, and with it all hashes: names can't be chosen by the hashes that they will have, and a text can only be tried. It
+/// A key for hashes: SipHash-1-3 that has taken the SHA-256 digest of a whole text. Whoever changes a name or a type of the text
+/// changes the key, and with it all hashes: none can be chosen by the hash that it will have, and a text can only be tried. It
 /// asks for no random source, and one text has one key. No clause says how evenly hashes are spread.
 #[derive(Clone, Copy)]
 pub struct TextKey {

@@ -7,7 +7,7 @@ use Rattle.std.proofs.Math.Nat.{add-mod_right, mod-add-div', mod-eq_of_lt, mod_s
 use Rattle.std.proofs.lemmas.Bool.{ltb-true}
 use Rattle.std.proofs.lemmas.Bool.Decides.{nat_tests}
 use Rattle.mr_base.specs.Pairs.{is_meeting}
-use Rattle.mr_mem.specs.Memory.{is_bad_address}
+use Rattle.mr_start.specs.MemMemory.{is_bad_address}
 
 -- ---- tests
 

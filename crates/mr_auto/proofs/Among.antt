@@ -2,7 +2,7 @@
 use Rattle.mr_auto.proofs.Common.{◌≡◌, ℕ, ◌+◌, sym, ap, ◌∙◌, append-nil, List, [], ◌∷◌, ◌++◌, Bool, true, false, filter, range_with_len}
 use Rattle.std.proofs.Common.{zero-add}
 use Rattle.std.proofs.lemmas.List.Elements.{filter-append}
-use Rattle.mr_exchange.proofs.Lists.{range_with_len-parts}
+use Rattle.mr_run.proofs.ExchangeLists.{range_with_len-parts}
 
 one_more : (n : ℕ) → range_with_len 0 (n + 1) ≡ range_with_len 0 n ++ n ∷ []
 one_more n = range_with_len-parts 0 n 1 ∙ ap (λ k. range_with_len 0 n ++ k ∷ []) (zero-add n)

@@ -6,6 +6,13 @@ pub use Rattle.std.specs.List.{filter, range_with_len}
 pub use Rattle.mr_ast.specs.declared.program.Program.{Program}
 pub use Rattle.mr_base.specs.declared.thread.Status.{Status}
 pub use Rattle.mr_base.specs.declared.thread.Status.TheVariants.{Enabled}
+pub use Rattle.mr_run.proofs.StepPlanElementLaws.{Contains-nil}
+pub use Rattle.mr_run.specs.StepPlanLegal.{creation_fault, Fault}
+pub use Rattle.mr_run.specs.StepPlanMachine.{Bare, bare, Completed, Goes, IllFormedStep, needs, State, Stops}
+pub use Rattle.mr_run.specs.StepPlanRuns.{after, after_bare, Config, feet, is_running, stepped_from}
+unfoldable pub use Rattle.mr_run.specs.StepPlanRuns.{machine_step}
+pub use Rattle.mr_run.specs.StepStanding.{Standing}
+pub use Rattle.mr_run.specs.StepSwapMeets.{addresses, IsTaken}
 pub use Rattle.mr_sched.specs.Chooser.{address_from, aligned_from, behind_address, behind_bytes, behind_draw, first_chooser, has_address}
 pub use Rattle.mr_sched.specs.declared.chooser.Chooser.{Chooser}
 pub use Rattle.mr_sched.specs.declared.schedule.Ask.{Ask}
@@ -14,14 +21,7 @@ pub use Rattle.mr_start.specs.FrameFrames.{Look}
 pub use Rattle.mr_start.specs.Start.{ask_of, Piece, pieces}
 unfoldable pub use Rattle.mr_start.specs.Start.{look_of, start_config, start_fault}
 pub use Rattle.mr_start.specs.Steps.{Own, thread_step}
-pub use Rattle.mr_step.proofs.PlanElementLaws.{Contains-nil}
-pub use Rattle.mr_step.specs.PlanLegal.{creation_fault, Fault}
-pub use Rattle.mr_step.specs.PlanMachine.{Bare, bare, Completed, Goes, IllFormedStep, needs, State, Stops}
-pub use Rattle.mr_step.specs.PlanRuns.{after, after_bare, Config, feet, is_running, stepped_from}
-unfoldable pub use Rattle.mr_step.specs.PlanRuns.{machine_step}
-pub use Rattle.mr_step.specs.Standing.{Standing}
-pub use Rattle.mr_step.specs.SwapMeets.{addresses, IsTaken}
-pub use Rattle.mr_sync.specs.Tables.{is_enabled, on_lock}
+pub use Rattle.mr_start.specs.SyncTables.{is_enabled, on_lock}
 pub use Rattle.mr_typing.specs.Walk.{WellFormed}
 pub use Rattle.mr_auto.specs.Answers.{AreAddresses, NextAnswer}
 pub use Rattle.mr_auto.specs.Drawing.{candidate, drawn_entries, enabled_in, entry_by, entry_from, entry_of, found, led, Next, next_at, next_in, Picked, picked, put, schedule_from, start_picked, within_limits}

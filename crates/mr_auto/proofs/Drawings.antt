@@ -4,7 +4,7 @@ use Rattle.mr_sched.specs.declared.schedule.Schedule.{Schedule}
 use Rattle.mr_run.specs.Runs.{IsRun}
 use Rattle.mr_start.specs.Runs.{Legal, run_of, steps_of}
 use Rattle.mr_start.proofs.StartSound.{start_look, start_sound}
-use Rattle.mr_step.specs.Answers.{standing}
+use Rattle.mr_run.specs.StepAnswers.{standing}
 use Rattle.mr_auto.proofs.LegalRuns.{schedule_legal}
 use Rattle.mr_auto.proofs.StartFound.{start_found}
 use Rattle.mr_auto.proofs.Starts.{start_legal, start_lies}

@@ -3,14 +3,14 @@ use Rattle.mr_auto.proofs.Common.{◌≡◌, ℕ, suc, ◌+◌, ◌-◌, ◌<◌
 use Rattle.std.proofs.Common.{length-append}
 use Rattle.mr_base.specs.declared.reached.Reached.{Reached}
 use Rattle.mr_base.specs.declared.reason.Verdict.{Verdict}
-use Rattle.mr_event.specs.Footprint.{Footprint}
-use Rattle.mr_mem.specs.Memory.{leaks}
+use Rattle.mr_run.specs.EventFootprint.{Footprint}
+use Rattle.mr_start.specs.MemMemory.{leaks}
 use Rattle.mr_base.specs.Script.{Broken, Outcome, Refused, Went}
-use Rattle.mr_step.specs.PlanMachine.{Aborts, Exits, Flow, Language, Thread, acted, settled}
-use Rattle.mr_step.specs.PlanNotes.{Notes}
-use Rattle.mr_step.specs.PlanQueries.{Shared}
-use Rattle.mr_step.specs.PlanRuns.{foot_from, has_rule, is_ill_formed}
-use Rattle.mr_step.proofs.PlanRunLaws.{completed_by_step}
+use Rattle.mr_run.specs.StepPlanMachine.{Aborts, Exits, Flow, Language, Thread, acted, settled}
+use Rattle.mr_run.specs.StepPlanNotes.{Notes}
+use Rattle.mr_run.specs.StepPlanQueries.{Shared}
+use Rattle.mr_run.specs.StepPlanRuns.{foot_from, has_rule, is_ill_formed}
+use Rattle.mr_run.proofs.StepPlanRunLaws.{completed_by_step}
 use Rattle.mr_start.specs.Runs.{program_fault, program_step}
 use Rattle.mr_run.specs.Runs.{IsMade, foot_by}
 use Rattle.mr_run.proofs.EntryLaws.{one_foot}

@@ -10,3 +10,4 @@ pub mod PicksLeft
 pub mod StartFound
 pub mod Starts
 pub mod Steps
+pub use Rattle.mr_start.proofs.RunLaws as StartRunLaws

@@ -1,11 +1,11 @@
 -- The picks that are drawn meet what is asked, behind all that was picked before.
 use Rattle.mr_auto.proofs.Common.{◌≡◌, ℕ, zero, suc, ◌<◌, ◌≤◌, ◌/◌, ◌^◌, refl, sym, ap, ◌∙◌, subst, inl, inr, arith, List, [], ◌∷◌, length, get_or, Bool, true, false, Option, Some, None, Contains, slice_get, if◌then◌else◌, filter, range_with_len, mod-lt, same_Some, Status, behind_address, behind_draw, Chooser, Ask, on_lock, Contains-nil, IsTaken, addresses, Picked, candidate, found, picked, put, EndsBy}
-use Rattle.mr_mem.specs.Memory.{Ranges}
+use Rattle.mr_start.specs.MemMemory.{Ranges}
 use Rattle.mr_sched.specs.Chooser.{drawn, position_in}
 use Rattle.mr_sched.specs.declared.schedule.Ask.TheVariants.{Address, Waiter}
-use Rattle.mr_step.specs.SwapMeets.{MeetsAfter}
-use Rattle.mr_step.proofs.SwapElementTests.{front_cases}
-use Rattle.mr_step.proofs.SwapMeetsLaws.{clear_from}
+use Rattle.mr_run.specs.StepSwapMeets.{MeetsAfter}
+use Rattle.mr_run.proofs.StepSwapElementTests.{front_cases}
+use Rattle.mr_run.proofs.StepSwapMeetsLaws.{clear_from}
 use Rattle.mr_auto.specs.Drawing.{threads_where, waiting_in}
 use Rattle.mr_auto.proofs.Addresses.{apart_behind, bytes_behind, found_is, not_bad}
 

@@ -6,15 +6,15 @@ use Rattle.mr_base.specs.declared.byte.AllocId.{AllocId}
 use Rattle.mr_base.specs.declared.byte.Pointer.{Pointer}
 use Rattle.mr_base.specs.declared.reason.Reason.{Reason}
 use Rattle.mr_base.specs.declared.reason.Reason.TheVariants.{Misaligned, NoProvenance}
-use Rattle.mr_mem.specs.Memory.{Allocation, Memory, allocated, inside, is_multiple, put_at, put_in, ranges_of, then_give, written}
-use Rattle.mr_mem.proofs.Identities.{get_here, get_there}
-use Rattle.mr_mem.proofs.RangeLaws.{ranges-allocated, ranges-empty}
+use Rattle.mr_start.specs.MemMemory.{Allocation, Memory, allocated, inside, is_multiple, put_at, put_in, ranges_of, then_give, written}
+use Rattle.mr_start.proofs.MemIdentities.{get_here, get_there}
+use Rattle.mr_start.proofs.MemRangeLaws.{ranges-allocated, ranges-empty}
 use Rattle.mr_runs.specs.Ranges.{with_range_replaced}
-use Rattle.mr_step.proofs.PlanIdentityCases.{id_cases}
-use Rattle.mr_step.proofs.PlanMemoryFacts.{Ranged}
+use Rattle.mr_run.proofs.StepPlanIdentityCases.{id_cases}
+use Rattle.mr_run.proofs.StepPlanMemoryFacts.{Ranged}
 use Rattle.mr_start.specs.Start.{behind_store, filled, global_bytes, placed, start_memory, start_placed}
-use Rattle.mr_step.specs.SwapMeets.{ranges_after}
-use Rattle.mr_step.proofs.SwapMeetsLaws.{after_only, legal_of_meets, taken_in, taken_of_memory}
+use Rattle.mr_run.specs.StepSwapMeets.{ranges_after}
+use Rattle.mr_run.proofs.StepSwapMeetsLaws.{after_only, legal_of_meets, taken_in, taken_of_memory}
 use Rattle.std.specs.FinMap as fin
 use Rattle.mr_auto.proofs.Picks.{ArePicks, picks_are}
 

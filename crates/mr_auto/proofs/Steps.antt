@@ -1,19 +1,19 @@
 -- A drawn entry is legal, and what is found next lies behind all that memory has then.
 use Rattle.mr_auto.proofs.Common.{◌≡◌, ℕ, zero, suc, ◌<◌, refl, sym, ap, ◌∙◌, subst, inl, inr, arith, List, [], Bool, true, false, Option, Some, None, Contains, slice_get, if◌then◌else◌, same_Some, Enabled, behind_draw, Chooser, Ask, Entry, is_enabled, WellFormed, Fault, creation_fault, Bare, Completed, Goes, IllFormedStep, State, Stops, bare, needs, Config, after_bare, is_running, machine_step, stepped_from, Contains-nil, Look, Own, thread_step, IsTaken, addresses, Next, Picked, candidate, drawn_entries, enabled_in, entry_by, entry_of, led, next_at, next_in, picked, within_limits, EndsBy, LiesBehind}
-use Rattle.mr_mem.specs.Memory.{ranges_of}
-use Rattle.mr_step.specs.PlanLegal.{count_of, else_fault, fault, needs_fault, picks_fault, state_fault, status_fault}
-use Rattle.mr_step.specs.PlanNotes.{Notes}
-use Rattle.mr_step.specs.PlanRuns.{AreLegal, entry_fault, fault_in}
+use Rattle.mr_start.specs.MemMemory.{ranges_of}
+use Rattle.mr_run.specs.StepPlanLegal.{count_of, else_fault, fault, needs_fault, picks_fault, state_fault, status_fault}
+use Rattle.mr_run.specs.StepPlanNotes.{Notes}
+use Rattle.mr_run.specs.StepPlanRuns.{AreLegal, entry_fault, fault_in}
 use Rattle.mr_start.specs.FrameFits.{IsLook}
 use Rattle.mr_start.proofs.RunSound.{entry_sound}
 use Rattle.mr_start.specs.SoundState.{IsSoundConfig}
-use Rattle.mr_step.proofs.ExchangeSane.{sound_is_sane}
-use Rattle.mr_step.proofs.ExchangeTelling.{thread_step_tells}
-use Rattle.mr_step.specs.SwapMeets.{AreNewIn}
-use Rattle.mr_step.proofs.SwapBareSteps.{needs_are, taken, whole, whole_run}
-use Rattle.mr_step.proofs.SwapMeetsLaws.{legal_of_meets, step_only}
-use Rattle.mr_step.proofs.SwapStepRuns.{memory_of}
-use Rattle.mr_step.proofs.EntryLaws.{enabled_is}
+use Rattle.mr_run.proofs.StepExchangeSane.{sound_is_sane}
+use Rattle.mr_run.proofs.StepExchangeTelling.{thread_step_tells}
+use Rattle.mr_run.specs.StepSwapMeets.{AreNewIn}
+use Rattle.mr_run.proofs.StepSwapBareSteps.{needs_are, taken, whole, whole_run}
+use Rattle.mr_run.proofs.StepSwapMeetsLaws.{legal_of_meets, step_only}
+use Rattle.mr_run.proofs.StepSwapStepRuns.{memory_of}
+use Rattle.mr_run.proofs.StepEntryLaws.{enabled_is}
 use Rattle.mr_auto.proofs.Picks.{ArePicks, candidate_passes, picks_are}
 use Rattle.mr_sched.specs.declared.rule.ScheduleRule.TheVariants as rule
 
@@ -97,7 +97,7 @@ module _ (look : Look) (s : State Own) (c : Chooser) (next : Next) (d : DrawnIn 
         let sane = sound_is_sane program s sound in
         let new : AreNewIn s.shared.memory d.thread k.th.count = λ id a there is. sane.counted id a there k.th (ap (slice_get s.threads) is ∙ k.here) in
         let facts = memory_of (whole (thread_step look) k.th.own d.picks.picks) s.shared s'.shared d.thread k.th.count n (Goes k.own k.started) (whole_run (thread_step look) s d.thread d.picks.picks n s' k) new in
-        let ranges : n.tally.ranges ≡ addresses asks d.picks.picks = told.allocates ∙ ap (λ (m : Rattle.mr_step.specs.PlanMachine.Needs). addresses m.asks d.picks.picks) (sym needed) in
+        let ranges : n.tally.ranges ≡ addresses asks d.picks.picks = told.allocates ∙ ap (λ (m : Rattle.mr_run.specs.StepPlanMachine.Needs). addresses m.asks d.picks.picks) (sym needed) in
         elim (step_only s.shared.memory d.thread k.th.count s'.shared.memory n.tally facts q h) [
           | inl old ↦ let low = behind q old in let up = drawn_picks.grows in omega arith
           | inr made ↦ drawn_picks.ends q (subst (λ rs. Contains rs q) ranges made)

@@ -4,8 +4,8 @@ use Rattle.mr_sched.specs.declared.chooser.Chooser.{Chooser}
 use Rattle.mr_sched.specs.declared.schedule.Ask.{Ask}
 use Rattle.mr_sched.specs.declared.schedule.Ask.TheVariants.{Address, Waiter}
 use Rattle.mr_sched.specs.declared.schedule.Entry.{Entry}
-use Rattle.mr_step.specs.PlanRuns.{Config, is_running}
-use Rattle.mr_step.specs.PlanMachine.{State}
+use Rattle.mr_run.specs.StepPlanRuns.{Config, is_running}
+use Rattle.mr_run.specs.StepPlanMachine.{State}
 use Rattle.mr_start.specs.Steps.{Own}
 use Rattle.mr_auto.specs.Drawing.{Next, Picked}
 

@@ -1,17 +1,17 @@
 -- How entries are drawn, one behind the other.
 use Rattle.std.specs.Prelude.{◌≡◌, ℕ, ◌<◌, ◌≤◌, ◌++◌, false, List, Some}
-use Rattle.mr_mem.specs.Memory.{ranges_of}
+use Rattle.mr_start.specs.MemMemory.{ranges_of}
 use Rattle.mr_sched.specs.Chooser.{behind_bytes}
 use Rattle.mr_sched.specs.declared.chooser.Chooser.{Chooser}
 use Rattle.mr_sched.specs.declared.schedule.Entry.{Entry}
 use Rattle.mr_typing.specs.Walk.{WellFormed}
-use Rattle.mr_step.specs.PlanMachine.{State}
-use Rattle.mr_step.specs.PlanRuns.{Config, after}
+use Rattle.mr_run.specs.StepPlanMachine.{State}
+use Rattle.mr_run.specs.StepPlanRuns.{Config, after}
 use Rattle.mr_start.specs.FrameFits.{IsLook}
-use Rattle.mr_step.specs.SwapMeets.{IsTaken}
+use Rattle.mr_run.specs.StepSwapMeets.{IsTaken}
 use Rattle.mr_start.specs.Steps.{Own, thread_step}
 use Rattle.mr_start.specs.SoundState.{IsSoundConfig}
-use Rattle.mr_step.specs.Standing.{Standing}
+use Rattle.mr_run.specs.StepStanding.{Standing}
 use Rattle.mr_auto.specs.Answers.{HasState}
 use Rattle.mr_auto.specs.Drawing.{drawn_entries}
 

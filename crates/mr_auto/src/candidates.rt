@@ -1,10 +1,10 @@
 //! The threads among which one is drawn.
 ghost use Rattle.std.specs.Prelude.{◌≡◌, IfOk, Some, true};
-ghost use Rattle.mr_step.specs.PlanMachine.{State};
+ghost use Rattle.mr_run.specs.StepPlanMachine.{State};
 ghost use Rattle.mr_start.specs.Steps.{Own};
 ghost use Rattle.mr_auto.specs.Drawing.{enabled_in, waiting_in};
 
-use mr_step::Machine;
+use mr_run::Machine;
 use std::alloc::{AllocError, Global};
 
 /// The threads that can go on, by rising number.

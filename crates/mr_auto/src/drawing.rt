@@ -1,9 +1,9 @@
 //! The run that a schedule is drawn in.
 ghost use Rattle.std.specs.Prelude.{◌≡◌, ℕ, ◌+◌, ◌^◌, ◌<◌, ◌≤◌, [], false, IfOk, OnOk, Some, List};
-ghost use Rattle.mr_step.specs.PlanMachine.{State};
-ghost use Rattle.mr_step.specs.PlanQueries.{tables_of};
-ghost use Rattle.mr_sync.specs.Tables.{IsEnabled};
-ghost use Rattle.mr_step.specs.PlanRuns.{feet};
+ghost use Rattle.mr_run.specs.StepPlanMachine.{State};
+ghost use Rattle.mr_run.specs.StepPlanQueries.{tables_of};
+ghost use Rattle.mr_start.specs.SyncTables.{IsEnabled};
+ghost use Rattle.mr_run.specs.StepPlanRuns.{feet};
 ghost use Rattle.mr_run.specs.Runs.{IsRun};
 ghost use Rattle.mr_start.specs.Runs.{steps_of};
 ghost use Rattle.mr_start.specs.Steps.{Own, thread_step};
@@ -16,10 +16,9 @@ use crate::candidates::enabled_threads;
 use crate::picking::{picks_for, start_picks};
 use crate::running::make_step;
 use mr_base::Verdict;
-use mr_run::Record;
+use mr_run::{Machine, Record, StepFault};
 use mr_sched::{Chooser, Entry, Items, Schedule};
 use mr_start::start_asks;
-use mr_step::{Machine, StepFault};
 use mr_typing::Checked;
 use std::alloc::{AllocError, Global};
 

@@ -1,6 +1,6 @@
 //! The picks for what is asked.
 ghost use Rattle.std.specs.Prelude.{◌≡◌, [], ◌∷◌, IfOk, Some};
-ghost use Rattle.mr_step.specs.PlanMachine.{State};
+ghost use Rattle.mr_run.specs.StepPlanMachine.{State};
 ghost use Rattle.mr_sched.specs.Chooser.{behind_address, behind_draw};
 ghost use Rattle.mr_start.specs.Steps.{Own};
 ghost use Rattle.mr_auto.specs.Answers.{AreAddresses, PickAnswer, PicksAnswer};
@@ -9,8 +9,8 @@ ghost use Rattle.mr_base.specs.declared.thread.Status.TheVariants.{Enabled};
 ghost use Rattle.mr_sched.specs.declared.schedule.Ask.TheVariants.{Waiter};
 
 use crate::candidates::waiting_threads;
+use mr_run::Machine;
 use mr_sched::{Ask, Chooser, Items};
-use mr_step::Machine;
 use std::alloc::{AllocError, Global};
 
 /// An address, where one is found.

@@ -1,13 +1,12 @@
 //! One step of a machine that works.
 ghost use Rattle.std.specs.Prelude.{◌≡◌, ◌++◌, ◌^◌, ◌<◌, false, List, None, OnOk};
-ghost use Rattle.mr_event.specs.Footprint.{Footprint};
+ghost use Rattle.mr_run.specs.EventFootprint.{Footprint};
 ghost use Rattle.mr_start.specs.Runs.{program_fault};
 ghost use Rattle.mr_run.specs.Records.{HasRoom};
 ghost use Rattle.mr_run.specs.Runs.{IsMade, foot_by};
 
-use mr_run::{Record, step};
+use mr_run::{Machine, Record, StepFault, step};
 use mr_sched::Entry;
-use mr_step::{Machine, StepFault};
 use std::alloc::AllocError;
 
 /// The step of an entry that breaks no rule.

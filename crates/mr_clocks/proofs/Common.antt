@@ -22,7 +22,7 @@ pub use Rattle.mr_event.specs.Order.{Edge, HappensBefore, HasNoPartner, RacePair
 unfoldable pub use Rattle.mr_event.specs.Order.{no_step}
 pub use Rattle.mr_event.specs.Order.Edge.{in_thread, woken}
 pub use Rattle.mr_event.specs.Order.HappensBefore.{chain, edge}
-pub use Rattle.mr_clocks.specs.Clocks.{AreClocks, AreLatest, AreUnder, clock_at, Follows, IsClockOf, IsMade, IsNumbered, IsPart, IsUnder, KeepsClock}
+pub use Rattle.mr_clocks.specs.Clocks.{AreClocks, AreLatest, AreUnder, clock_at, Follows, IsClockOf, IsMade, IsNumbered, IsPart, IsUnder}
 pub use Rattle.mr_clocks.specs.Keys.{asks, creates, end_asked, end_noted, event_asked, event_noted, has_row, IsExact, joins, made_keys, range_keys, same_access, same_bool, spawns_some, starts, touched_keys}
 pub use Rattle.mr_clocks.specs.Marks.{AreKept, AreMarked, has_mark, IsMarked, IsOnShelf, mark_of, no_shelf, shelf_at}
 pub use Rattle.mr_clocks.specs.Memos.{AreMemos, IsMemo, IsMemoOf, memo_at, no_memo}

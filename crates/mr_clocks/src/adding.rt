@@ -3,7 +3,7 @@
 //! Most steps do what an earlier one did, and keep the clock of the step before in their thread. What the others need
 //! stands in calls of their own, which are marked `inline(never)`, so that it costs those steps nothing.
 
-ghost use Rattle.std.specs.Prelude.{◌≡◌, ◌≢◌, ℕ, ◌+◌, ◌<◌, ◌≤◌, ◌^◌, IfOk, IfSome, OnOk, OnErr, MatchOption, length, slice_index, max, vec_len, vec_capacity};
+ghost use Rattle.std.specs.Prelude.{◌≡◌, ◌≢◌, ℕ, ◌+◌, ◌<◌, ◌≤◌, ◌^◌, IfOk, IfSome, IsTrue, OnOk, OnErr, MatchOption, length, slice_index, max, vec_len, vec_capacity};
 ghost use Rattle.mr_event.specs.Order.{step_at, thread_at, Edge, IsGreatestPartner, HasNoPartner};
 ghost use Rattle.mr_clocks.specs.Clocks.{AreClocks, AreLatest, IsMade, IsNumbered, KeepsClock};
 ghost use Rattle.mr_clocks.specs.Marks.{AreMarked};
@@ -15,7 +15,7 @@ ghost use Rattle.mr_clocks.specs.Wakers.{AreExtended, AreWakers, CanNote};
 use crate::clock::Clock;
 use crate::hints::{Slots, fill_hints, hinted, note_hint};
 use crate::index::Index;
-use crate::made::{clock_of, is_settled, partner_by};
+use crate::made::{clock_of, partner_by, standing_of};
 use crate::memos::{Memo, look_up};
 use crate::rows::{Link, Row, note_all, reserve_links};
 use crate::skips::{Skip, reserve_table, store_all};
@@ -158,7 +158,8 @@ fn enter(
     store_all(alloc, skips, left);
 }
 
-// Adds step `j` of the run, by walks over the rows at some places, and gives its greatest partner.
+// Adds step `j` of the run, and gives its greatest partner. Its clock is made by walks over the rows at some places,
+// unless it is known that the step keeps that of the step before in its thread.
 #[inline(never)]
 fn add_walked(
     alloc: Global,
@@ -173,6 +174,7 @@ fn add_walked(
     skips: &mut Vec<Skip>,
     found: &[usize],
     hint: Option<usize>,
+    keeps: bool,
     places: &[usize],
     slots: Slots,
     j: usize,
@@ -186,6 +188,8 @@ fn add_walked(
     requires skips { AreSkips run.now j links.old.items skips.old.items }
     requires found { AreAllAsked (step_at run.now j) rows.old.items found.now }
     requires hint { IfSome hint (λ i. Edge run.now i j) }
+    requires keeps { IsTrue keeps → KeepsClock run.now clocks.old.items numbers.old.items
+        (slice_index latest.old (thread_at run.now j)) j }
     requires places { ArePlaces (step_at run.now j) rows.old.items places.now }
     ensures partner { IfOk result
         (λ o. MatchOption o (HasNoPartner run.now j) (λ i. IsGreatestPartner run.now i j)) }
@@ -217,6 +221,7 @@ fn add_walked(
         skips.as_slice(),
         found,
         hint,
+        keeps,
         j,
     )?;
     let partner = partner_by(
@@ -358,7 +363,7 @@ fn add_step(
         slots,
         j,
     );
-    let is_settled = is_settled(
+    let standing = standing_of(
         run,
         clocks.as_slice(),
         numbers.as_slice(),
@@ -370,10 +375,24 @@ fn add_step(
         hint,
         j,
     );
-    if !is_settled {
+    if !standing.settled {
         return add_walked(
-            alloc, run, clocks, numbers, latest, wakers, hints, rows, links, skips, found, hint,
-            places, slots, j,
+            alloc,
+            run,
+            clocks,
+            numbers,
+            latest,
+            wakers,
+            hints,
+            rows,
+            links,
+            skips,
+            found,
+            hint,
+            standing.keeps,
+            places,
+            slots,
+            j,
         );
     }
     add_settled(

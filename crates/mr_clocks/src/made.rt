@@ -11,7 +11,9 @@ ghost use Rattle.mr_clocks.specs.Wakers.{AreSyncsUnder, AreWakers};
 use crate::analysis::lent;
 use crate::clock::Clock;
 use crate::hints::follow_hint;
-use crate::known::{are_known, are_latest_known, is_latest_known, is_place_known};
+use crate::known::{
+    Standing, are_latest_known, is_both, is_latest_known, is_place_known, no_standing, standing_to,
+};
 use crate::rows::{Link, Row, better, follow_place, keep_walk};
 use crate::skips::Skip;
 use crate::wakers::{Wakers, follow_wakers, is_woken};
@@ -79,13 +81,6 @@ pub(crate) fn is_either(one: bool, other: bool) -> bool
     ensures other { IsFalse result → other ≡ false }
 {
     one || other
-}
-
-fn is_both(one: bool, other: bool) -> bool
-    ensures one { IsTrue result → IsTrue one }
-    ensures other { IsTrue result → IsTrue other }
-{
-    one && other
 }
 
 // Follows the row at a place, and keeps the skip that the walk leaves.
@@ -423,7 +418,9 @@ fn follow_first(
     Ok(is_either(woken, hinted))
 }
 
-// Whether a clock that changed knows the latest steps of the rows at some places.
+// Whether a clock that changed knows the latest steps of the rows at some places. As a call of its own it has registers
+// for all that it looks at.
+#[inline(never)]
 fn is_done(
     run: &[Footprint],
     clock: &Clock,
@@ -501,9 +498,10 @@ fn walked_clock(
     })
 }
 
-// Whether the clock of the step before in j's thread knows all steps that edges lead from to `j`: not where a hint
-// names one of them.
-fn keeps_clock(
+/// How the clock of the step before in j's thread stands to the rows that `j` asks: as one that knows too little where
+/// a step woke the thread since, or a hint names a step that leads to `j`. Where it keeps, `j` keeps that clock; where
+/// it is settled too, `j` has no partner.
+pub(crate) fn standing_of(
     run: &[Footprint],
     clocks: &[Clock],
     numbers: &[u32],
@@ -514,69 +512,35 @@ fn keeps_clock(
     found: &[usize],
     hint: Option<usize>,
     j: usize,
-) -> bool
+) -> Standing
     requires within { j < length run.now }
     requires clocks { AreClocks run.now j clocks.now numbers.now }
     requires latest { AreLatest run.now j latest.now }
     requires wakers { AreWakers run.now j j wakers.now.heads.items wakers.now.links.items }
     requires rows { AreRows run.now j rows.now links.now }
     requires found { AreAllAsked (step_at run.now j) rows.now found.now }
-    ensures { IsTrue result
+    ensures keeps { IsTrue result.keeps
         → KeepsClock run.now clocks.now numbers.now (slice_index latest.now (thread_at run.now j)) j }
+    ensures settled { IsTrue result.settled
+        → KeepsClock run.now clocks.now numbers.now (slice_index latest.now (thread_at run.now j)) j }
+    ensures alone { IsTrue result.settled → HasNoPartner run.now j }
 {
     if hint.is_some() {
-        return false;
+        return no_standing();
     }
     let next = latest.at(thread_at(run, j));
     if next == 0 {
-        return false;
+        return no_standing();
     }
     if is_woken(run, wakers, j, next as usize) {
-        return false;
+        return no_standing();
     }
     let clock = lent(clocks, numbers, next as usize - 1);
-    are_known(run, clock, rows, links, found, j)
+    standing_to(run, clock, rows, links, found, j)
 }
 
-/// Whether the clock of the step before in j's thread knows the latest step of each row that `j` asks, and no step woke
-/// the thread since: not where a hint names a step that leads to `j`. Then `j` keeps it, and has no partner.
-pub(crate) fn is_settled(
-    run: &[Footprint],
-    clocks: &[Clock],
-    numbers: &[u32],
-    latest: &Clock,
-    wakers: &Wakers,
-    rows: &[Row],
-    links: &[Link],
-    found: &[usize],
-    hint: Option<usize>,
-    j: usize,
-) -> bool
-    requires within { j < length run.now }
-    requires clocks { AreClocks run.now j clocks.now numbers.now }
-    requires latest { AreLatest run.now j latest.now }
-    requires wakers { AreWakers run.now j j wakers.now.heads.items wakers.now.links.items }
-    requires rows { AreRows run.now j rows.now links.now }
-    requires found { AreAllAsked (step_at run.now j) rows.now found.now }
-    ensures keeps { IsTrue result
-        → KeepsClock run.now clocks.now numbers.now (slice_index latest.now (thread_at run.now j)) j }
-    ensures alone { IsTrue result → HasNoPartner run.now j }
-{
-    if hint.is_some() {
-        return false;
-    }
-    let next = latest.at(thread_at(run, j));
-    if next == 0 {
-        return false;
-    }
-    if is_woken(run, wakers, j, next as usize) {
-        return false;
-    }
-    let clock = lent(clocks, numbers, next as usize - 1);
-    are_latest_known(run, clock, rows, links, found, j)
-}
-
-/// The clock of step `j`, from those of the steps before it.
+/// The clock of step `j`, from those of the steps before it. It is known whether `j` keeps that of the step before in
+/// its thread.
 pub(crate) fn clock_of(
     alloc: Global,
     run: &[Footprint],
@@ -589,6 +553,7 @@ pub(crate) fn clock_of(
     skips: &[Skip],
     found: &[usize],
     hint: Option<usize>,
+    keeps: bool,
     j: usize,
 ) -> Result<Found, OutOfMemory>
     requires within { j < length run.now }
@@ -600,14 +565,14 @@ pub(crate) fn clock_of(
     requires skips { AreSkips run.now j links.now skips.now }
     requires found { AreAllAsked (step_at run.now j) rows.now found.now }
     requires hint { IfSome hint (λ i. Edge run.now i j) }
+    requires keeps { IsTrue keeps
+        → KeepsClock run.now clocks.now numbers.now (slice_index latest.now (thread_at run.now j)) j }
     ensures made { IfOk result (λ f. IsMade run.now clocks.now numbers.now
         (slice_index latest.now (thread_at run.now j)) f.clock j) }
     ensures skips { IfOk result (λ f. AreSkips run.now j links.now f.skips.items) }
     ensures alone { IfOk result (λ f. IsTrue f.alone → HasNoPartner run.now j) }
 {
-    if keeps_clock(
-        run, clocks, numbers, latest, wakers, rows, links, found, hint, j,
-    ) {
+    if keeps {
         return Ok(Found {
             clock: None,
             skips: Vec::new(alloc),

@@ -12,7 +12,7 @@ use Rattle.mr_gen.proofs.GeneratedLaws.{well_formed}
 use Rattle.mr_answer.specs.AutoDrawing.{drawn_schedule}
 use Rattle.mr_answer.proofs.AutoLegalRuns.{schedule_legal}
 use Rattle.mr_run.proofs.WitnessKept.{first_witness}
-use Rattle.mr_exchange.proofs.First.{first_of_predicted}
+use Rattle.mr_run.proofs.ExchangeFirst.{first_of_predicted}
 use Rattle.mr_run.proofs.WitnessShortWitness.{witness_of_run}
 use Rattle.mr_run.specs.WitnessShuffled.{shuffled}
 use Rattle.mr_run.proofs.WitnessCopied.{shuffled_same}

@@ -9,7 +9,7 @@ use Rattle.mr_sched.specs.declared.version.Version.TheVariants.{Two}
 use Rattle.mr_event.specs.declared.footprint.Pair.{Pair}
 use Rattle.mr_typing.specs.Walk.{faults_of}
 use Rattle.mr_answer.specs.AutoDrawing.{drawn_schedule}
-use Rattle.mr_report.specs.Report.{line}
+use Rattle.mr_input.specs.ReportReport.{line}
 use Rattle.mr_trace.specs.Reading.{Place, races_of}
 use Rattle.mr_sched.specs.Versions.{text_in}
 use Rattle.mr_input.specs.declared.refusal.Refusal.{Refusal}

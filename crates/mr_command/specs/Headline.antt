@@ -12,7 +12,7 @@ use Rattle.mr_event.specs.declared.footprint.Pair.{Pair}
 use Rattle.mr_event.specs.Footprint.{Footprint}
 use Rattle.mr_event.specs.Order.{IsPredicted}
 use Rattle.mr_run.specs.ExchangeWitness.{IsWitness, kept_schedule}
-use Rattle.mr_report.specs.Report.{report_text}
+use Rattle.mr_input.specs.ReportReport.{report_text}
 use Rattle.mr_input.specs.Answer.{Answer}
 use Rattle.mr_input.specs.Writing.{IsLeft, IsWritten}
 use Rattle.mr_answer.specs.Report.{line_of, report_status}

@@ -8,3 +8,4 @@ pub mod Promises
 pub mod Showing
 pub mod Traces
 pub use Rattle.mr_answer.specs.Answers as AnswerAnswers
+pub use Rattle.mr_gen.specs.Generated as GenGenerated

@@ -1,4 +1,4 @@
-//! Types are compared, put in order and copied, and asked for the rule that they break.
+//! Types are compared and copied, and asked for the rule that they break.
 use crate::texts::{program_of, type_of};
 use mr_ast::{OutOfMemory, Program, Ty};
 use mr_layout::type_ok;
@@ -23,8 +23,7 @@ fn compared(alloc: Global, first: &Ty, second: &Ty) -> Result<[bool; 2], OutOfMe
 
 fn tell(alloc: Global, told: &mut String, first: &Ty, second: &Ty) -> Result<(), OutOfMemory> {
     let types = compared(alloc, first, second)?;
-    let order = first.order(second);
-    write!(told, "{types:?} {order:?}")
+    write!(told, "{types:?}")
 }
 
 fn tell_in(alloc: Global, told: &mut String, program: &Program) -> Result<(), OutOfMemory> {
@@ -75,28 +74,27 @@ const LEAF: &str = "enum size 16 align 8 disc i8 { 1: bool tag { 8: u8 = 2 } } k
 
 const OTHER_LEAF: &str = "enum size 16 align 8 disc i8 { 1: bool tag { 8: u8 = 2 } } known 4";
 
-// Two types, whether they are equal, themselves and by a copy, and how the first stands to the second in the order of
-// types.
+// Two types, and whether they are equal, themselves and by a copy.
 static TYPES: [(&str, &str, &str); 15] = [
-    (DEEP, DEEP, "[true, true] Equal"),
-    (DEEP, OTHER_TAG, "[false, false] Less"),
-    (DEEP, OTHER_CHUNK, "[false, false] Less"),
-    (DEEP, OTHER_REF, "[false, false] Less"),
-    (OTHER_REF, OTHER_REF, "[true, true] Equal"),
-    (OTHER_REF, DEEP, "[false, false] Greater"),
-    (SCALARS, SCALARS, "[true, true] Equal"),
-    ("bool", "raw", "[false, false] Less"),
-    ("fnptr", "i128", "[false, false] Greater"),
-    ("u16", "u8", "[false, false] Greater"),
-    ("ref 8 1", "ref 4 8", "[false, false] Greater"),
-    ("array(2, i128)", "array(3, u8)", "[false, false] Less"),
+    (DEEP, DEEP, "[true, true]"),
+    (DEEP, OTHER_TAG, "[false, false]"),
+    (DEEP, OTHER_CHUNK, "[false, false]"),
+    (DEEP, OTHER_REF, "[false, false]"),
+    (OTHER_REF, OTHER_REF, "[true, true]"),
+    (OTHER_REF, DEEP, "[false, false]"),
+    (SCALARS, SCALARS, "[true, true]"),
+    ("bool", "raw", "[false, false]"),
+    ("fnptr", "i128", "[false, false]"),
+    ("u16", "u8", "[false, false]"),
+    ("ref 8 1", "ref 4 8", "[false, false]"),
+    ("array(2, i128)", "array(3, u8)", "[false, false]"),
     (
         "tuple size 2 align 1 { 1: u8 }",
         "tuple size 2 align 1 { 0: u8, 1: u8 }",
-        "[false, false] Less",
+        "[false, false]",
     ),
-    (LEAF, LEAF, "[true, true] Equal"),
-    (LEAF, OTHER_LEAF, "[false, false] Less"),
+    (LEAF, LEAF, "[true, true]"),
+    (LEAF, OTHER_LEAF, "[false, false]"),
 ];
 
 #[test]

@@ -7,7 +7,7 @@ pub use Rattle.std.proofs.lemmas.Option.{same_Some}
 pub use Rattle.std.proofs.lemmas.Result.{err_from_is_err_and}
 pub use Rattle.std.specs.Option.{option_map}
 pub use Rattle.std.specs.Ordering.{int_eq}
-pub use Rattle.mr_ast.proofs.OrderHeads.{type_made}
+pub use Rattle.mr_ast.proofs.TypeInduction.{type_made}
 pub use Rattle.mr_ast.specs.Integers.{bits_of, int_size, is_fitting, is_signed, least_of}
 pub use Rattle.mr_ast.specs.ShapedValues.{Named}
 unfoldable pub use Rattle.mr_ast.specs.ShapedValues.{is_shaped_place, is_shaped_value}

@@ -33,5 +33,6 @@ pub mod SoundParts
 pub mod TargetLaws
 pub mod Widths
 pub mod Within
+pub use Rattle.mr_mem.proofs.SpeakingLaws as MemSpeakingLaws
 pub use Rattle.mr_value.proofs.DecodeShape as ValueDecodeShape
 pub use Rattle.mr_value.proofs.EncodeLength as ValueEncodeLength

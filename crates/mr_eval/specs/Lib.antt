@@ -19,6 +19,7 @@ pub mod Stores
 pub mod Tally
 pub mod Typed
 pub mod World
+pub use Rattle.mr_mem.specs.Memory as MemMemory
 pub use Rattle.mr_typing.specs.Types as TypingTypes
 pub use Rattle.mr_typing.specs.Walk as TypingWalk
 pub use Rattle.mr_value.specs.Numbers as ValueNumbers

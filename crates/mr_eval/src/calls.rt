@@ -131,7 +131,7 @@ pub fn store_typed(
 {
     let layout = e.cache.layout(t);
     if is_scalar(t) {
-        return store_scalar(m, n, p, &encode_scalar(v, t), layout.align);
+        return store_scalar(m, n, false, p, &encode_scalar(v, t), layout.align);
     }
     let mut bytes = Vec::new(alloc);
     encode(alloc, v, t, &mut bytes)?;

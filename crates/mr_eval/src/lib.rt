@@ -12,7 +12,7 @@
 //! - [`load_scalar`]: the same of an integer, a bool or a pointer, which takes no memory and notes nothing; `load_typed` is it and the
 //!   notes for these types (`specs/Noted.antt`).
 //! - [`store_typed`]: the store of a value of a type's shape. A refused one changes no memory. [`store_bytes`] and [`store_uninit`] do
-//!   the same with bytes and with uninitialised ones.
+//!   the same with bytes and with uninitialised ones, [`store_scalar`] with the bytes of an integer, a bool or a pointer.
 //! - [`behind`]: a pointer so many bytes behind another, around the end of the address space.
 //! - [`arith`], [`overflowing`], [`shift`], [`compare`], [`cast`], [`negate`], [`invert`]: the operators on integers, over their
 //!   bits in two's complement. The bits of a number stand in a `u128`, with zeros above the width of its type. The answer is
@@ -65,4 +65,4 @@ pub use notes::Notes;
 pub use scalars::{Scalar, scalar_of};
 pub use scene::Scene;
 pub use shifts::{ShiftOp, shift};
-pub use stores::{store_bytes, store_uninit};
+pub use stores::{store_bytes, store_scalar, store_uninit};

@@ -1,15 +1,22 @@
 //! What is noted of accesses and range checks.
+use mr_ast::Ty;
 use mr_base::{Access, Accesses, AllocIds, Pointer, Reached, Reaching};
+use mr_value::Val;
 use std::alloc::{AllocError, Global};
 
 /// What evaluation notes of what it read: its accesses in order, and the allocations that its range checks touched. Beside
-/// these the bytes that were refused last, by which a stop is told; they stay where the others are forgotten.
+/// these the bytes that were refused last, by which a stop is told; they stay where the others are forgotten. So do two lists of
+/// which no definition speaks: they keep the memory of an intrinsic's arguments for the next one.
 #[derive(Drop)]
 pub struct Notes {
     pub accesses: Accesses,
     pub touched: AllocIds,
     /// The bytes that were refused last.
     pub refused: Option<Reached>,
+    /// A list for the values of arguments, whatever it holds.
+    pub spare_values: Vec<Val>,
+    /// A list for their types, whatever it holds.
+    pub spare_types: Vec<Ty>,
 }
 
 impl Notes {
@@ -26,6 +33,8 @@ impl Notes {
             accesses: Accesses::new(alloc),
             touched: AllocIds::new(alloc),
             refused: None,
+            spare_values: Vec::new(alloc),
+            spare_types: Vec::new(alloc),
         }
     }
 

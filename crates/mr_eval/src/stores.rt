@@ -51,27 +51,28 @@ pub fn store_bytes(
     }
 }
 
-/// The store of the bytes of an integer, a bool or a pointer, not atomic: 103 before the range check.
+/// The store of the bytes of an integer, a bool or a pointer, atomic or not: 103 before the range check.
 ///
 /// After `Err` memory is as before, and the notes begin with what they held.
 #[tactic(auto, using(crate::proofs::ExtendsLaws::extends_laws, crate::proofs::RefusedLaws::store_refused))]
 pub fn store_scalar(
     m: &mut Memory,
     notes: &mut Notes,
+    atomic: bool,
     p: Pointer,
     bytes: &ScalarBytes,
     align: u64,
 ) -> Result<(), Fault>
     requires { bytes.now.count ≤ 16 }
     ensures given { Leaves result
-        (storing m.old false p (with_provenance bytes.now.provenance (take bytes.now.count bytes.now.all)) align
+        (storing m.old atomic p (with_provenance bytes.now.provenance (take bytes.now.count bytes.now.all)) align
         (seen notes.old))
         m.new (seen notes.new) notes.new.refused }
     ensures kept { Extends (seen notes.old) (seen notes.new) }
     ensures err { OnErr result (m.new ≡ m.old) }
 {
     let numbers = bytes.numbers();
-    note_store(notes, false, p, numbers.len() as u64)?;
+    note_store(notes, atomic, p, numbers.len() as u64)?;
     match m.store_numbers(p, numbers, bytes.provenance, align) {
         Ok(()) => Ok(()),
         Err(fault) => {

@@ -3,8 +3,8 @@ use Rattle.mr_exchange.proofs.Common.{◌≡◌, ◌≢◌, ℕ, ◌<◌, refl, 
 use Rattle.std.proofs.lemmas.List.{set-append_left, set_comm}
 use Rattle.mr_base.specs.Script.{Refused}
 use Rattle.mr_base.proofs.ScriptRuns.{run_bind}
-use Rattle.mr_plan.specs.Machine.{Plan, acted, needed, needs_of, settle, settled, started_threads}
-use Rattle.mr_plan.proofs.Rooms.{in_front}
+use Rattle.mr_start.specs.PlanMachine.{Plan, acted, needed, needs_of, settle, settled, started_threads}
+use Rattle.mr_start.proofs.PlanRooms.{in_front}
 
 -- ---- the list of threads
 

@@ -3,8 +3,8 @@ use Rattle.mr_exchange.proofs.Common.{◌≡◌, ℕ, refl, sym, ap, ◌∙◌, 
 use Rattle.std.proofs.lemmas.Bool.{not_from_false}
 use Rattle.mr_base.specs.declared.reason.Reason.{Reason}
 use Rattle.mr_base.specs.declared.reason.Reason.TheVariants.{NotHolder, UnknownLock}
-use Rattle.mr_sync.specs.Tables.{awaiting, trying, waits}
-use Rattle.mr_plan.specs.Queries.{giving, going, telling, with_tables}
+use Rattle.mr_start.specs.SyncTables.{awaiting, trying, waits}
+use Rattle.mr_start.specs.PlanQueries.{giving, going, telling, with_tables}
 
 -- ---- tests
 

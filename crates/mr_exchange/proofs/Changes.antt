@@ -1,6 +1,6 @@
 -- The ways in which a query changes what is shared and what is noted.
 use Rattle.mr_exchange.proofs.Common.{◌≡◌, ℕ, ◌<◌, refl, List, [], ◌∷◌, ◌++◌, length, true, false, Option, Some, None, Bool, slice_get, slice_set, slice_get_within, Acquire, CreateLock, Join, Release, Spawn, Status, Enabled, OnJoin, OnLock, Memory, Done, Undefined, IllFormed, Ask, Went, run, goes_on, any_waits, handed, joiners, over, Tally, Notes, Await, Finish, NewLock, OfMemory, Print, Query, Reply, Shared, Start, StepScript, TryLock, Unlock, Waiting, answer, blocked, in_shared, note, tables_of, woke, at_outcome}
-use Rattle.mr_plan.specs.EvalMemoryQueries.{MemoryQuery, MemoryReply, memory_answer}
+use Rattle.mr_start.specs.EvalMemoryQueries.{MemoryQuery, MemoryReply, memory_answer}
 use Rattle.mr_exchange.proofs.CallAnswers.{IsHeld, handing, holds, joining, looking, not_broken, taking, unlocked_free, unlocked_given}
 use Rattle.mr_exchange.proofs.Statuses.{after_end, waits_lock}
 

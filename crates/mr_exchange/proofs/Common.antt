@@ -35,31 +35,31 @@ pub use Rattle.mr_event.specs.Order.HappensBefore.{chain, edge}
 pub use Rattle.mr_layout.specs.Sizes.{align_of, size_of}
 pub use Rattle.mr_mem.specs.Memory.{Allocation, id_cmp, Memory, Range, Ranges}
 unfoldable pub use Rattle.mr_mem.specs.Memory.{ranges_of}
-pub use Rattle.mr_plan.proofs.ElementLaws.{Contains-nil, Contains-one}
-pub use Rattle.mr_plan.proofs.MemoryFacts.{MemoryFacts, start_facts}
-pub use Rattle.mr_plan.proofs.TallyGrows.{longer_contains, tally_grows}
-pub use Rattle.mr_plan.proofs.WentLaws.{at_outcome}
-pub use Rattle.mr_plan.specs.EvalTally.{Tally}
-pub use Rattle.mr_plan.specs.Legal.{count_of, else_fault, fault, picks_fault, state_fault}
-pub use Rattle.mr_plan.specs.Machine.{Aborts, bare, Completed, CreatesLock, CreatesNothing, CreatesThread, Creation, Exits, Flow, Goes, Language, Needs, needs, State, Thread, thread_of}
-pub use Rattle.mr_plan.specs.Notes.{event_of, foot_of, Notes, start_notes}
-unfoldable pub use Rattle.mr_plan.specs.Notes.{accesses_in}
-pub use Rattle.mr_plan.specs.Queries.{answer, Await, blocked, Finish, in_shared, NewLock, note, OfMemory, Print, Query, Reply, Shared, Start, StepScript, tables_of, TryLock, Unlock, Waiting, woke}
 pub use Rattle.mr_sched.specs.declared.schedule.Ask.TheVariants.{Address, Waiter}
 pub use Rattle.mr_sched.specs.declared.schedule.Entry.{Entry}
+pub use Rattle.mr_start.proofs.PlanElementLaws.{Contains-nil, Contains-one}
+pub use Rattle.mr_start.proofs.PlanMemoryFacts.{MemoryFacts, start_facts}
+pub use Rattle.mr_start.proofs.PlanTallyGrows.{longer_contains, tally_grows}
+pub use Rattle.mr_start.proofs.PlanWentLaws.{at_outcome}
 pub use Rattle.mr_start.proofs.StartSound.{start_look, start_sound}
-pub use Rattle.mr_start.specs.EvalMemoryQueries.{Allocate, Free, MemoryQuery, MemoryReply, MemoryScript, Modify, Reading, reading_part, Write}
+pub use Rattle.mr_start.specs.EvalMemoryQueries.{Allocate, Free, MemoryReply, MemoryScript, Modify, Reading, reading_part, Write}
 pub use Rattle.mr_start.specs.EvalOperators.{pointer_in, pointer_of_value}
 pub use Rattle.mr_start.specs.FrameCalls.{enter, kept_types, resume, return_from, same_types, storage_asks, unwind}
 unfoldable pub use Rattle.mr_start.specs.FrameCalls.{callee_of}
 pub use Rattle.mr_start.specs.FrameFits.{IsLook}
 pub use Rattle.mr_start.specs.FrameFrames.{GoesOn, Look, Onward, scene_in, Stack}
+pub use Rattle.mr_start.specs.EvalTally.{Tally}
+pub use Rattle.mr_start.specs.PlanLegal.{count_of, else_fault, fault, picks_fault, state_fault}
+pub use Rattle.mr_start.specs.PlanMachine.{Aborts, bare, Completed, CreatesLock, CreatesNothing, CreatesThread, Creation, Exits, Flow, Goes, Language, Needs, needs, State, Thread, thread_of}
+pub use Rattle.mr_start.specs.PlanNotes.{event_of, foot_of, Notes, start_notes}
+unfoldable pub use Rattle.mr_start.specs.PlanNotes.{accesses_in}
+pub use Rattle.mr_start.specs.PlanQueries.{answer, Await, blocked, Finish, in_shared, NewLock, note, OfMemory, Print, Query, Reply, Shared, Start, StepScript, tables_of, TryLock, Unlock, Waiting, woke}
 pub use Rattle.mr_start.specs.SoundState.{IsSoundConfig, SoundState}
 unfoldable pub use Rattle.mr_start.specs.Start.{look_of, start_config}
 pub use Rattle.mr_start.specs.Steps.{Own, thread_step}
 unfoldable pub use Rattle.mr_start.specs.Steps.{own_step}
+pub use Rattle.mr_start.specs.SyncTables.{any_waiting, any_waits, handed, holding, joiners, on_join, on_lock, over, Tables, wake}
 pub use Rattle.mr_start.specs.TypingWalk.{WellFormed}
-pub use Rattle.mr_sync.specs.Tables.{any_waiting, any_waits, handed, holding, joiners, on_join, on_lock, over, Tables, wake}
 pub use Rattle.mr_value.specs.declared.val.Val.{out-Val, Val}
 pub use Rattle.mr_exchange.specs.Meets.{addresses, AreNewIn, Exchanged, HasRoom, IsLegalEntry, Meets, MeetsAfter}
 pub use Rattle.mr_exchange.specs.PlanMachine.{Bare, IllFormedStep, Plan, Stops}

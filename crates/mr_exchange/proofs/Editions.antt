@@ -3,8 +3,8 @@
 use Rattle.mr_exchange.proofs.Common.{◌≡◌, ℕ, zero, suc, ◌+◌, ◌≤◌, ◌^◌, refl, sym, ap, ◌∙◌, List, [], ◌∷◌, ◌++◌, All, arith, Bool, true, false, Option, None, Some, Contains, length, ◌==◌, if◌then◌else◌, ne_eqb, All-append, All-cons, All-nil, Contains-append_left, Access, AllocId, Tally, IsAccessOk, Footprint, Allocation, Memory, Notes, accesses_in, event_of, foot_of, MemoryFacts}
 use Rattle.std.proofs.Common.{ap₂}
 use Rattle.mr_mem.specs.Memory.{extent_of}
-use Rattle.mr_plan.specs.Limits.{ArePlaced, IsPlaced}
-use Rattle.mr_plan.specs.Notes.{whole_store, whole_stores}
+use Rattle.mr_start.specs.PlanLimits.{ArePlaced, IsPlaced}
+use Rattle.mr_start.specs.PlanNotes.{whole_store, whole_stores}
 use Rattle.std.specs.FinMap as fin
 use Rattle.mr_exchange.proofs.ElementTests.{here, there}
 

@@ -2,7 +2,7 @@
 use Rattle.mr_exchange.proofs.Common.{◌≡◌, ℕ, ◌+◌, refl, sym, ap, ◌∙◌, subst, List, arith, Some, true, false, Any, Contains, ◌&&◌, ◌||◌, ◌==◌, nat_lt, list_any, and_from, both_ways, eq-eqb, lt-ltb, or_parts, some_conflict, Access, AllocId, Event, Acquire, CreateLock, Join, Quiet, Release, Spawn, depends, spawns, wakes, Footprint, event_of, ActsOn, IsCreation, IsSpawn, HasOneEvent}
 use Rattle.mr_base.specs.Accesses.{conflicts, overlaps}
 use Rattle.mr_event.specs.Footprints.{both_create, both_spawn, joins_of, lock_of, same_lock, same_number, share_id}
-use Rattle.mr_plan.specs.Places.{Covers}
+use Rattle.mr_start.specs.PlanPlaces.{Covers}
 use Rattle.mr_base.specs.Identities.{same_id}
 use Rattle.mr_exchange.proofs.ElementTests.{any_element, none_passes}
 

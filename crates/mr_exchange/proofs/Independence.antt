@@ -1,8 +1,8 @@
 -- Two steps, one directly behind the other, of which the later one neither depends on the earlier one nor was woken by it, are apart: neither
 -- reads or writes what the other one writes.
 use Rattle.mr_exchange.proofs.Common.{◌≡◌, ◌≢◌, ℕ, ◌<◌, refl, sym, ap, ◌∙◌, length, arith, ◌⊎◌, inl, inr, false, Any, Contains, both_ways, eq-eqb, or_left, or_right, same_Some, Access, AllocId, Join, Spawn, Allocation, depends, spawns, wakes, Footprint, Apart, Notes, foot_of, Query, Reply, Shared, answer, MemoryFacts, AreNewIn, ActsOn, At, EndsThread, Holder, InMemory, IsCreation, IsGoing, IsSpawn, LockCount, Over, Reads, Spot, ThreadCount, WaitsJoin, WaitsLock, Writes, at_spot, HasOneEvent}
-use Rattle.mr_plan.specs.Places.{ByteAt, Covers, HeaderOf, StoresAt}
-use Rattle.mr_plan.proofs.MemoryFacts.{IsDead, IsLive, IsThere}
+use Rattle.mr_start.specs.PlanPlaces.{ByteAt, Covers, HeaderOf, StoresAt}
+use Rattle.mr_start.proofs.PlanMemoryFacts.{IsDead, IsLive, IsThere}
 use Rattle.mr_exchange.proofs.Editions.{evaluated}
 use Rattle.mr_exchange.proofs.ElementTests.{any_element, any_from}
 use Rattle.mr_exchange.proofs.FreeSteps.{IsFree, event_is, free_from, not_both_create, not_both_locks, not_both_spawn, not_conflicting, not_ended, not_shared, not_started, not_woken}

@@ -2,8 +2,8 @@
 use Rattle.mr_exchange.proofs.Common.{◌≡◌, ℕ, refl, ap, ◌∙◌, List, Bool, true, false, cond, Option, Some, None, length, lt-ltb, nat_lt, slice_get, Status, Enabled, Ended, OnJoin, OnLock, ranges_of, Shared, CreatesLock, CreatesNothing, CreatesThread, Creation, Language, State, needs, count_of, else_fault, fault, picks_fault, state_fault, AreNewIn, HasRoom, IsLegalEntry}
 use Rattle.std.proofs.Common.{◌↔◌}
 use Rattle.std.proofs.lemmas.Bool.{ltb-true}
-use Rattle.mr_plan.specs.Legal.{creation_fault, needs_fault, status_fault}
-use Rattle.mr_plan.proofs.LegalLaws.{no_faults}
+use Rattle.mr_start.specs.PlanLegal.{creation_fault, needs_fault, status_fault}
+use Rattle.mr_start.proofs.PlanLegalLaws.{no_faults}
 use Rattle.mr_sched.specs.declared.rule.ScheduleRule.{ScheduleRule}
 use Rattle.mr_exchange.proofs.MeetsLaws.{legal_of_meets, meets_of_legal, new_of_memory}
 use Rattle.mr_sched.specs.declared.rule.ScheduleRule.TheVariants as rule

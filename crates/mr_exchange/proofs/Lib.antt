@@ -43,8 +43,14 @@ pub mod Threads
 pub mod Tracked
 pub mod Unordered
 pub mod Witness
-pub use Rattle.mr_plan.proofs.ElementLaws as PlanElementLaws
-pub use Rattle.mr_plan.proofs.MemoryAnswers as PlanMemoryAnswers
-pub use Rattle.mr_plan.proofs.QuietRuns as PlanQuietRuns
-pub use Rattle.mr_plan.proofs.WentLaws as PlanWentLaws
+pub use Rattle.mr_start.proofs.FrameStatements as StartFrameStatements
+pub use Rattle.mr_start.proofs.IntrEachOperation as StartIntrEachOperation
+pub use Rattle.mr_start.proofs.PlanElementLaws
+pub use Rattle.mr_start.proofs.PlanLegalLaws as StartPlanLegalLaws
+pub use Rattle.mr_start.proofs.PlanMemoryAnswers
+pub use Rattle.mr_start.proofs.PlanQuietRuns
+pub use Rattle.mr_start.proofs.PlanWentLaws
+pub use Rattle.mr_start.proofs.RunLaws as StartRunLaws
+pub use Rattle.mr_start.proofs.RunSound as StartRunSound
+pub use Rattle.mr_start.proofs.StartLimits as StartStartLimits
 pub use Rattle.mr_start.proofs.StartSound as StartStartSound

@@ -5,8 +5,8 @@ use Rattle.std.proofs.lemmas.List.Elements.{All-contains_itself}
 use Rattle.mr_event.specs.FootOk.{IsEventOk}
 use Rattle.mr_mem.specs.Memory.{is_multiple}
 use Rattle.mr_sched.specs.declared.schedule.Ask.{Ask}
-use Rattle.mr_plan.specs.Limits.{ArePlaced, IsWithin}
-use Rattle.mr_plan.proofs.AccessBounds.{accesses_ok}
+use Rattle.mr_start.specs.PlanLimits.{ArePlaced, IsWithin}
+use Rattle.mr_start.proofs.PlanAccessBounds.{accesses_ok}
 use Rattle.mr_exchange.specs.Limits.{LimitLaw}
 use Rattle.std.specs.FinMap as fin
 use Rattle.mr_exchange.proofs.BareSteps.{Taken, needs_are, needs_in, taken, whole, whole_run}

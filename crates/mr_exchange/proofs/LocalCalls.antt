@@ -2,10 +2,10 @@
 use Rattle.mr_exchange.proofs.Common.{◌≡◌, ◌≢◌, ℕ, ◌+◌, refl, sym, ap, ◌∙◌, subst, List, [], ◌∷◌, ◌++◌, length, inl, inr, Option, Some, None, Ok, Bool, true, false, Any, slice_get, slice_set, option_map, cases_eq, length-map, length-set, length_push, Acquire, CreateLock, Join, Release, Spawn, Status, Enabled, Ended, OnJoin, OnLock, Memory, Went, on, goes_on, any_waiting, any_waits, handed, joiners, on_join, on_lock, over, wake, Tally, Notes, Await, Finish, NewLock, OfMemory, Print, Query, Reply, Shared, Start, TryLock, Unlock, Waiting, answer, blocked, in_shared, note, tables_of, woke, at_outcome, ActsOn, At, Holder, InMemory, IsCreation, IsGoing, IsSpawn, LockCount, Over, Reads, Spot, ThreadCount, WaitsJoin, WaitsLock, Writes, at_spot}
 use Rattle.std.proofs.lemmas.List.Quantifiers.{Any-push}
 use Rattle.mr_base.proofs.ScriptSwaps.{IsLocal}
-use Rattle.mr_plan.specs.EvalMemoryQueries.{MemoryQuery, memory_answer}
-use Rattle.mr_plan.specs.Places.{MemoryPlace}
-use Rattle.mr_plan.proofs.MemoryLocal.{memory_local}
-use Rattle.mr_plan.proofs.MemoryMoves.{IsMove, MovesAt}
+use Rattle.mr_start.specs.EvalMemoryQueries.{MemoryQuery, memory_answer}
+use Rattle.mr_start.specs.PlanPlaces.{MemoryPlace}
+use Rattle.mr_start.proofs.PlanMemoryLocal.{memory_local}
+use Rattle.mr_start.proofs.PlanMemoryMoves.{IsMove, MovesAt}
 use Rattle.mr_exchange.proofs.CallAnswers.{IsHeld, handing, held_passes, holds, joining, looking, not_broken, taking, unbroken, unlocked_free, unlocked_free_too, unlocked_given, unlocked_given_too}
 use Rattle.mr_exchange.proofs.ElementTests.{last_is}
 use Rattle.mr_exchange.proofs.PushedLists.{push_here, push_there}

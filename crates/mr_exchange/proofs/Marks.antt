@@ -1,9 +1,9 @@
 -- What each query of a step adds to its events and to the ranges of its new allocations.
-use Rattle.mr_exchange.proofs.Common.{◌≡◌, ℕ, zero, suc, refl, sym, ap, ◌∙◌, subst, List, [], ◌∷◌, ◌++◌, Bool, true, false, Option, Some, None, Result, Ok, Err, length, if◌then◌else◌, slice_get, IsStrictlyIncreasing, Event, Acquire, CreateLock, Join, Release, Spawn, Went, Broken, goes_on, Tables, any_waits, holding, joiners, Allocate, Free, MemoryQuery, MemoryReply, Modify, Reading, Write}
+use Rattle.mr_exchange.proofs.Common.{◌≡◌, ℕ, zero, suc, refl, sym, ap, ◌∙◌, subst, List, [], ◌∷◌, ◌++◌, Bool, true, false, Option, Some, None, Result, Ok, Err, length, if◌then◌else◌, slice_get, IsStrictlyIncreasing, Event, Acquire, CreateLock, Join, Release, Spawn, Went, Broken, goes_on, Tables, any_waits, holding, joiners, Allocate, Free, MemoryReply, Modify, Reading, Write}
 use Rattle.mr_base.specs.declared.reason.Reason.{Reason}
 use Rattle.mr_exchange.specs.MemMemory.{Memory}
-use Rattle.mr_sync.specs.Tables.{acquired, ended, joined, released}
-use Rattle.mr_start.specs.EvalMemoryQueries.{memory_answer}
+use Rattle.mr_start.specs.SyncTables.{acquired, ended, joined, released}
+use Rattle.mr_start.specs.EvalMemoryQueries.{MemoryQuery, memory_answer}
 use Rattle.mr_start.specs.EvalTally.{Tally}
 use Rattle.mr_exchange.specs.PlanQueries.{Await, Finish, NewLock, OfMemory, Print, Query, Reply, Shared, Start, TryLock, Unlock, Waiting, answer, blocked, ending, fits, giving, going, in_shared, note, tables_of, telling, with_tables, woke}
 use Rattle.mr_exchange.specs.PlanNotes.{Notes}

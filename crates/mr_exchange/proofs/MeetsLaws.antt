@@ -5,9 +5,9 @@ use Rattle.mr_mem.specs.declared.fault.PickFault.{PickFault}
 use Rattle.mr_mem.specs.declared.fault.PickFault.TheVariants.{BadAddress, Reused}
 use Rattle.mr_mem.specs.Memory.{first_overlapped, is_bad_address, range_fault, reused, with_range}
 use Rattle.mr_sched.specs.declared.schedule.Ask.{Ask}
-use Rattle.mr_plan.specs.Legal.{Fault, address_fault}
-use Rattle.mr_plan.proofs.LegalLaws.{no_faults}
-use Rattle.mr_plan.proofs.MemoryFacts.{Ranged}
+use Rattle.mr_start.specs.PlanLegal.{Fault, address_fault}
+use Rattle.mr_start.proofs.PlanLegalLaws.{no_faults}
+use Rattle.mr_start.proofs.PlanMemoryFacts.{Ranged}
 use Rattle.mr_exchange.specs.Meets.{AreApart, AreNew, AreWaiting, IsApartFrom, IsClear, IsTaken, TakesAlso, TakesOnly, ranges_after, waiters}
 use Rattle.mr_mem.proofs.IndexLaws.{not_reused}
 use Rattle.mr_exchange.proofs.ElementTests.{front_cases, here, there}

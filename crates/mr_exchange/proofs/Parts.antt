@@ -1,5 +1,6 @@
 -- Parts of a step that ask memory alone: the allocations that they make. They note no event, and evaluation notes no allocation either.
-use Rattle.mr_exchange.proofs.Common.{◌≡◌, refl, sym, subst, Done, Undefined, IllFormed, Ask, ◌>>=◌, Allocate, Free, MemoryQuery, MemoryReply, MemoryScript, Modify, Reading, Write, reading_part}
+use Rattle.mr_exchange.proofs.Common.{◌≡◌, refl, sym, subst, Done, Undefined, IllFormed, Ask, ◌>>=◌, Allocate, Free, MemoryReply, MemoryScript, Modify, Reading, Write, reading_part}
+use Rattle.mr_start.specs.EvalMemoryQueries.{MemoryQuery}
 use Rattle.mr_start.specs.EvalReads.{ReadScript}
 use Rattle.mr_exchange.specs.PlanQueries.{StepScript, memory_part}
 use Rattle.mr_start.proofs.FrameStorageSteps.{Leads}

@@ -1,6 +1,6 @@
 -- Lists with one element more, and with another one in the place of an element.
 use Rattle.mr_exchange.proofs.Common.{◌≡◌, ◌≢◌, ℕ, zero, suc, refl, ap, List, [], ◌∷◌, ◌++◌, length, Some, slice_get, slice_set, slice_get_within}
-use Rattle.mr_plan.proofs.Positions.{set_here}
+use Rattle.mr_start.proofs.PlanPositions.{set_here}
 
 -- what is put in the place of an element stands there
 pub set_same : {A : Type 0} (xs : List A) (i : ℕ) (old new : A) → slice_get xs i ≡ Some old → slice_get (slice_set xs i new) i ≡ Some new

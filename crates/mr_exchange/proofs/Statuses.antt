@@ -1,7 +1,7 @@
 -- What is seen of lists of statuses: who waits, and what changes where two lists are changed alike.
 use Rattle.mr_exchange.proofs.Common.{◌≡◌, ◌≢◌, ℕ, zero, suc, ◌+◌, refl, sym, ap, ◌∙◌, subst, List, [], ◌∷◌, ◌++◌, map, length, arith, ◌⊎◌, inl, inr, Option, Some, None, Bool, true, false, cond, Contains, ◌==◌, slice_get, slice_set, option_map, cases_eq, eq-eqb, eqb-true, ne_eqb, slice_get_past, Status, Enabled, OnJoin, OnLock, Ended, any_waiting, joiners, on_join, on_lock, over, wake, set_there}
 use Rattle.std.proofs.lemmas.Option.{slice_get-map}
-use Rattle.mr_plan.proofs.MemoryMoves.{IsMove}
+use Rattle.mr_start.proofs.PlanMemoryMoves.{IsMove}
 use Rattle.mr_exchange.proofs.ElementTests.{here, there}
 use Rattle.mr_exchange.proofs.PushedLists.{push_here, push_there, set_same}
 

@@ -1,9 +1,9 @@
 -- What is noted only grows, a thread that goes on stays enabled, and two states with the same at each spot are one.
 use Rattle.mr_exchange.proofs.Common.{◌≡◌, ℕ, refl, sym, ap, ◌∙◌, subst, List, [], ◌∷◌, ◌++◌, length, inl, inr, Some, None, true, arith, slice_get, slice_set, cases_eq, slice_get_past, Event, Acquire, CreateLock, Join, Release, Spawn, Status, Enabled, Notes, Query, Reply, Shared, answer, longer_contains, tally_grows, ActsOn, At, EndsThread, Holder, InMemory, IsCreation, IsGoing, IsSpawn, LockCount, Over, Reads, Spot, ThreadCount, WaitsJoin, WaitsLock, Writes, at_spot, set_there}
 use Rattle.mr_base.proofs.ScriptSwaps.{IsGrowing, IsKept}
-use Rattle.mr_plan.proofs.ListPlaces.{same_by_places}
-use Rattle.mr_plan.proofs.MemoryLocal.{same_memory}
-use Rattle.mr_plan.proofs.TallyGrows.{Longer, TallyGrows, grows_same, longer_any, longer_same, reads_grow, writes_grow}
+use Rattle.mr_start.proofs.PlanListPlaces.{same_by_places}
+use Rattle.mr_start.proofs.PlanMemoryLocal.{same_memory}
+use Rattle.mr_start.proofs.PlanTallyGrows.{Longer, TallyGrows, grows_same, longer_any, longer_same, reads_grow, writes_grow}
 use Rattle.mr_exchange.proofs.Changes.{Change, at_memory, awaits_end, awaits_lock, change, frees_lock, gives_lock, new_lock, new_thread, own_end, prints, sees_end, sees_lock, takes_lock}
 use Rattle.mr_exchange.proofs.PushedLists.{push_there, set_same}
 use Rattle.mr_exchange.proofs.Statuses.{same_status}

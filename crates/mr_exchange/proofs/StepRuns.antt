@@ -1,6 +1,6 @@
 -- What is known behind a script with which a step begins: of memory, and of the statuses of threads.
 use Rattle.mr_exchange.proofs.Common.{◌≡◌, ℕ, Memory, Went, run, Notes, start_notes, Shared, StepScript, answer, MemoryFacts, start_facts, AreNewIn}
-use Rattle.mr_plan.proofs.MemoryFacts.{memory_facts}
+use Rattle.mr_start.proofs.PlanMemoryFacts.{memory_facts}
 use Rattle.mr_exchange.proofs.Changes.{Change, at_memory, awaits_end, awaits_lock, frees_lock, gives_lock, new_lock, new_thread, own_end, prints, run_keeps, sees_end, sees_lock, takes_lock}
 use Rattle.mr_exchange.proofs.StatusFacts.{StatusFacts, start_statuses, status_facts}
 

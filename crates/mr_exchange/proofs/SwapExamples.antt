@@ -1,6 +1,6 @@
 -- A small language that tells what it does, and two of its steps, exchanged: a thread makes a lock, and another one prints.
 use Rattle.mr_exchange.proofs.Common.{◌≡◌, ℕ, zero, suc, refl, sym, ◌∙◌, subst, List, [], ◌∷◌, length, Option, Some, None, arith, Any, some_conflict, AllocId, Event, CreateLock, Enabled, depends, wakes, Allocation, id_cmp, Ask, Done, Went, run, Aborts, Completed, CreatesLock, CreatesNothing, Exits, Flow, Goes, Language, State, bare, thread_of, Notes, accesses_in, start_notes, NewLock, Print, Shared, StepScript, answer, note, Contains-nil, Contains-one, at_outcome, IsCreation, IsSpawn, AreExchanged, IsSane, IsTelling, IsWaiter, StepTold}
-use Rattle.mr_plan.specs.Machine.{Plan}
+use Rattle.mr_start.specs.PlanMachine.{Plan}
 use Rattle.std.specs.FinMap as fin
 use Rattle.mr_exchange.proofs.ElementTests.{any_from, here}
 use Rattle.mr_exchange.proofs.Rising.{rising_none}

@@ -1,7 +1,7 @@
 -- The swap law, over any language of steps that tells what it does.
 use Rattle.mr_exchange.proofs.Common.{◌≡◌, ◌≢◌, ℕ, ◌<◌, refl, sym, ap, ◌∙◌, subst, List, length, arith, ◌⊎◌, inl, inr, Some, None, false, Contains, slice_get, slice_get_within, Enabled, depends, wakes, ranges_of, Waiter, Went, run, Apart, on_lock, count_of, state_fault, Completed, Creation, CreatesLock, CreatesNothing, CreatesThread, Goes, Language, Needs, State, Thread, bare, needs, Notes, start_notes, Query, Reply, Shared, StepScript, answer, MemoryFacts, AreNewIn, Exchanged, HasRoom, IsLegalEntry, Meets, At, IsGoing, LockCount, Reads, Spot, ThreadCount, WaitsLock, Writes, at_spot, AreExchanged, IsCreated, IsSane, IsStarted, IsTelling, IsWaiter, StepTold, SwapLaw}
 use Rattle.mr_base.proofs.ScriptSwaps.{Follows, Grows, Swapped, follows, frame, grows, swap}
-use Rattle.mr_plan.specs.Runs.{foot_in}
+use Rattle.mr_start.specs.PlanRuns.{foot_in}
 use Rattle.mr_base.proofs.Lists.{item_there}
 use Rattle.mr_exchange.proofs.BareSteps.{Taken, bare_goes, needs_are, needs_in, other_thread, taken, threads_after, threads_in_order, whole, whole_run}
 use Rattle.mr_exchange.proofs.ElementTests.{any_from}

@@ -1,10 +1,10 @@
 -- The law of limits: each completed step keeps them, and leaves a state that keeps its own.
 use Rattle.std.specs.Prelude.{◌≡◌, ℕ, List, None}
 use Rattle.mr_event.specs.FootOk.{IsFootOk}
-use Rattle.mr_plan.specs.Legal.{state_fault}
-use Rattle.mr_plan.specs.Limits.{IsWithin}
-use Rattle.mr_plan.specs.Machine.{Completed, Language, State, bare}
-use Rattle.mr_plan.specs.Notes.{Notes, foot_of}
+use Rattle.mr_start.specs.PlanLegal.{state_fault}
+use Rattle.mr_start.specs.PlanLimits.{IsWithin}
+use Rattle.mr_start.specs.PlanMachine.{Completed, Language, State, bare}
+use Rattle.mr_start.specs.PlanNotes.{Notes, foot_of}
 use Rattle.mr_exchange.specs.Swap.{IsSane}
 
 -- THE LAW OF LIMITS, of a language: the footprint of a step of a legal entry keeps the machine's limits, and so does

@@ -10,9 +10,9 @@ use Rattle.mr_base.specs.Pairs.{are_meeting}
 use Rattle.mr_mem.specs.Memory.{Allocation, Memory, Range, Ranges, is_bad_address, ranges_of, with_range}
 use Rattle.mr_sched.specs.declared.schedule.Ask.{Ask}
 use Rattle.mr_sched.specs.declared.schedule.Ask.TheVariants.{Address, Waiter}
-use Rattle.mr_sync.specs.Tables.{on_lock}
-use Rattle.mr_plan.specs.Queries.{Shared}
-use Rattle.mr_plan.specs.Machine.{Creation, CreatesLock, CreatesNothing, CreatesThread, Language, State, needs}
+use Rattle.mr_start.specs.SyncTables.{on_lock}
+use Rattle.mr_start.specs.PlanQueries.{Shared}
+use Rattle.mr_start.specs.PlanMachine.{Creation, CreatesLock, CreatesNothing, CreatesThread, Language, State, needs}
 
 -- two ranges, each an address and a size, share no address
 abbrev pub AreApart : ℕ × ℕ → ℕ × ℕ → Type 0

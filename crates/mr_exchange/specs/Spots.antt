@@ -3,10 +3,10 @@ use Rattle.std.specs.Prelude.{◌≡◌, ℕ, ◌⊎◌, Bool, true, false, Opti
 use Rattle.mr_base.specs.declared.thread.Event.{Event}
 use Rattle.mr_base.specs.declared.thread.Event.TheVariants.{Quiet, CreateLock, Acquire, Release, Spawn, Join}
 use Rattle.mr_base.specs.declared.thread.Status.TheVariants.{Enabled}
-use Rattle.mr_sync.specs.Tables.{on_join, on_lock, over}
-use Rattle.mr_plan.specs.Notes.{Notes}
-use Rattle.mr_plan.specs.Places.{AtMemory, MemoryPlace, ReadsMemory, WritesMemory, in_memory}
-use Rattle.mr_plan.specs.Queries.{Shared}
+use Rattle.mr_start.specs.SyncTables.{on_join, on_lock, over}
+use Rattle.mr_start.specs.PlanNotes.{Notes}
+use Rattle.mr_start.specs.PlanPlaces.{AtMemory, MemoryPlace, ReadsMemory, WritesMemory, in_memory}
+use Rattle.mr_start.specs.PlanQueries.{Shared}
 
 -- A spot: a place of memory; the holder of a lock; how many locks and how many threads there are; whether a thread
 -- ended; whether a thread waits for a lock, or for the end of a thread.

@@ -10,12 +10,12 @@ use Rattle.mr_event.specs.Footprints.{depends, wakes}
 use Rattle.mr_sched.specs.declared.schedule.Ask.{Ask}
 use Rattle.mr_sched.specs.declared.schedule.Ask.TheVariants.{Address, Waiter}
 use Rattle.mr_base.specs.Script.{Went, run}
-use Rattle.mr_plan.specs.Legal.{state_fault}
-use Rattle.mr_plan.specs.Machine.{Completed, Creation, CreatesLock, CreatesNothing, CreatesThread, Flow, Goes}
-use Rattle.mr_plan.specs.Machine.{Language, Plan, State, Thread, bare}
-use Rattle.mr_plan.specs.Notes.{Notes, event_of, start_notes}
-use Rattle.mr_plan.specs.Runs.{foot_in}
-use Rattle.mr_plan.specs.Queries.{Shared, StepScript, answer}
+use Rattle.mr_start.specs.PlanLegal.{state_fault}
+use Rattle.mr_start.specs.PlanMachine.{Completed, Creation, CreatesLock, CreatesNothing, CreatesThread, Flow, Goes}
+use Rattle.mr_start.specs.PlanMachine.{Language, Plan, State, Thread, bare}
+use Rattle.mr_start.specs.PlanNotes.{Notes, event_of, start_notes}
+use Rattle.mr_start.specs.PlanRuns.{foot_in}
+use Rattle.mr_start.specs.PlanQueries.{Shared, StepScript, answer}
 use Rattle.mr_exchange.specs.Meets.{addresses}
 use Rattle.mr_exchange.specs.Spots.{ActsOn, IsCreation, IsSpawn}
 

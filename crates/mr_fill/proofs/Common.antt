@@ -7,9 +7,6 @@ pub use Rattle.mr_auto.proofs.Nexts.{weaker}
 pub use Rattle.mr_auto.specs.Drawing.{Next, Picked, start_picked}
 pub use Rattle.mr_auto.specs.Drawn.{BeginsDrawing, EndsBy, LiesBehind}
 pub use Rattle.mr_base.specs.declared.thread.Status.{Status}
-pub use Rattle.mr_plan.specs.Machine.{needs, State}
-pub use Rattle.mr_plan.specs.Runs.{Config, is_running}
-unfoldable pub use Rattle.mr_plan.specs.Runs.{machine_step}
 pub use Rattle.mr_sched.specs.Reading.{Gives, parts_after, parts_at}
 pub use Rattle.mr_sched.specs.declared.chooser.Chooser.{Chooser}
 pub use Rattle.mr_sched.specs.declared.schedule.Ask.{Ask}
@@ -17,6 +14,9 @@ pub use Rattle.mr_sched.specs.declared.schedule.Entry.{Entry}
 pub use Rattle.mr_start.specs.FrameFrames.{Look}
 pub use Rattle.mr_start.specs.Runs.{Legal, program_step}
 pub use Rattle.mr_start.specs.Steps.{Own, thread_step}
+pub use Rattle.mr_step.specs.PlanMachine.{needs, State}
+pub use Rattle.mr_step.specs.PlanRuns.{Config, is_running}
+unfoldable pub use Rattle.mr_step.specs.PlanRuns.{machine_step}
 pub use Rattle.mr_step.specs.Standing.{Standing}
 pub use Rattle.mr_typing.specs.Walk.{WellFormed}
 pub use Rattle.mr_fill.specs.Filled.{AreOf, FilledAfter}

@@ -2,7 +2,7 @@
 use Rattle.mr_fill.proofs.Common.{◌≡◌, ℕ, zero, suc, ◌+◌, refl, sym, ap, ◌∙◌, subst, List, [], ◌∷◌, length, take, Bool, true, false, Option, Some, None, Result, Ok, Err, slice_get, Program, Chooser, Entry, WellFormed, Config, machine_step, Look, Own, thread_step, Legal, program_step, Next, Picked, start_picked, LiesBehind, AreOf, Filling, behind_entry, entry_at, filled, filled_from, filling, led, Halt, Turn}
 use Rattle.std.proofs.Common.{map}
 use Rattle.std.specs.Option.{option_map}
-use Rattle.mr_plan.specs.Runs.{AreLegal}
+use Rattle.mr_step.specs.PlanRuns.{AreLegal}
 use Rattle.mr_start.specs.FrameFits.{IsLook}
 use Rattle.mr_start.specs.SoundState.{IsSoundConfig}
 use Rattle.mr_start.specs.Start.{look_of, start_config}

@@ -1,8 +1,8 @@
 -- Taking one turn more.
 use Rattle.mr_fill.proofs.Common.{◌≡◌, ℕ, suc, ◌+◌, ◌<◌, ◌≤◌, refl, sym, ap, ◌∙◌, subst, arith, List, [], ◌∷◌, ◌++◌, append-nil, append_assoc, drop, get_or, length, false, Option, Some, None, Result, Ok, Err, Chooser, Entry, Config, Look, Own, thread_step, program_step, Standing, Next, BeginsDrawing, FilledAfter, Filling, behind_entry, entry_at, filling, led, TurnAnswer, Halt, Turn}
 use Rattle.std.proofs.Math.Seq.{drop-cons}
-use Rattle.mr_plan.specs.Runs.{after}
-use Rattle.mr_plan.proofs.RunLaws.{completed_by_step}
+use Rattle.mr_step.specs.PlanRuns.{after}
+use Rattle.mr_step.proofs.PlanRunLaws.{completed_by_step}
 use Rattle.mr_start.specs.Runs.{program_fault}
 use Rattle.mr_run.specs.Runs.{IsMade}
 use Rattle.mr_auto.proofs.DrawnSoFar.{after_more, state_behind}

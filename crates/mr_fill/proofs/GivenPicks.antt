@@ -1,14 +1,14 @@
 -- The picks of a turn meet what is asked, behind all that was picked before.
 use Rattle.mr_fill.proofs.Common.{◌≡◌, ℕ, zero, suc, ◌<◌, ◌≤◌, refl, sym, ap, ◌∙◌, subst, inl, inr, arith, List, [], ◌∷◌, length, Bool, true, false, Option, Some, None, Contains, slice_get, if◌then◌else◌, filter, same_Some, Status, Chooser, Ask, Picked, EndsBy, behind_given, given}
 use Rattle.std.specs.List.{range_with_len}
-use Rattle.mr_mem.specs.Memory.{Ranges}
+use Rattle.mr_start.specs.MemMemory.{Ranges}
 use Rattle.mr_sched.specs.Chooser.{behind_address}
 use Rattle.mr_sched.specs.declared.schedule.Ask.TheVariants.{Address, Waiter}
-use Rattle.mr_sync.specs.Tables.{on_lock}
-use Rattle.mr_plan.proofs.ElementLaws.{Contains-nil}
-use Rattle.mr_exchange.specs.Meets.{IsTaken, MeetsAfter, addresses}
-use Rattle.mr_exchange.proofs.ElementTests.{front_cases}
-use Rattle.mr_exchange.proofs.MeetsLaws.{clear_from}
+use Rattle.mr_start.specs.SyncTables.{on_lock}
+use Rattle.mr_step.proofs.PlanElementLaws.{Contains-nil}
+use Rattle.mr_step.specs.SwapMeets.{IsTaken, MeetsAfter, addresses}
+use Rattle.mr_step.proofs.SwapElementTests.{front_cases}
+use Rattle.mr_step.proofs.SwapMeetsLaws.{clear_from}
 use Rattle.mr_auto.specs.Drawing.{found, waiting_in}
 use Rattle.mr_auto.proofs.Addresses.{apart_behind, bytes_behind, found_is, not_bad}
 use Rattle.mr_auto.proofs.Picks.{ArePicks, put_some}

@@ -1,23 +1,23 @@
 -- The entry of a turn is legal, and what is found next lies behind all that memory has then.
 use Rattle.mr_fill.proofs.Common.{◌≡◌, ℕ, ◌<◌, refl, sym, ap, ◌∙◌, subst, inl, inr, arith, List, [], ◌∷◌, Bool, true, false, Option, Some, None, Result, Ok, Err, Contains, slice_get, if◌then◌else◌, same_Some, Program, Chooser, Ask, Entry, WellFormed, State, needs, Config, is_running, machine_step, Look, Own, thread_step, Next, Picked, EndsBy, LiesBehind, asked_entry, enabled_entry, entry_at, entry_from, entry_in, entry_with, given, is_surplus, missing_code, within_limits, Turn}
 use Rattle.mr_base.specs.declared.thread.Status.TheVariants.{Enabled}
-use Rattle.mr_mem.specs.Memory.{ranges_of}
+use Rattle.mr_start.specs.MemMemory.{ranges_of}
 use Rattle.mr_sched.specs.Rules.{code_of}
-use Rattle.mr_sync.specs.Tables.{is_enabled}
-use Rattle.mr_plan.specs.Legal.{Fault, count_of, creation_fault, else_fault, fault, needs_fault, picks_fault, state_fault, status_fault}
-use Rattle.mr_plan.specs.Machine.{Bare, Completed, Goes, IllFormedStep, Needs, Stops, bare}
-use Rattle.mr_plan.specs.Notes.{Notes}
-use Rattle.mr_plan.specs.Runs.{after_bare, entry_fault, fault_in, stepped_from}
-use Rattle.mr_plan.proofs.ElementLaws.{Contains-nil}
+use Rattle.mr_start.specs.SyncTables.{is_enabled}
+use Rattle.mr_step.specs.PlanLegal.{Fault, count_of, creation_fault, else_fault, fault, needs_fault, picks_fault, state_fault, status_fault}
+use Rattle.mr_step.specs.PlanMachine.{Bare, Completed, Goes, IllFormedStep, Needs, Stops, bare}
+use Rattle.mr_step.specs.PlanNotes.{Notes}
+use Rattle.mr_step.specs.PlanRuns.{after_bare, entry_fault, fault_in, stepped_from}
+use Rattle.mr_step.proofs.PlanElementLaws.{Contains-nil}
 use Rattle.mr_start.specs.FrameFits.{IsLook}
 use Rattle.mr_start.proofs.RunSound.{entry_sound}
 use Rattle.mr_start.specs.SoundState.{IsSoundConfig, SoundState}
 use Rattle.mr_step.proofs.ExchangeSane.{sound_is_sane}
 use Rattle.mr_step.proofs.ExchangeTelling.{thread_step_tells}
-use Rattle.mr_exchange.specs.Meets.{AreNewIn, IsTaken, addresses}
-use Rattle.mr_exchange.proofs.BareSteps.{needs_are, taken, whole, whole_run}
-use Rattle.mr_exchange.proofs.MeetsLaws.{legal_of_meets, step_only}
-use Rattle.mr_exchange.proofs.StepRuns.{memory_of}
+use Rattle.mr_step.specs.SwapMeets.{AreNewIn, IsTaken, addresses}
+use Rattle.mr_step.proofs.SwapBareSteps.{needs_are, taken, whole, whole_run}
+use Rattle.mr_step.proofs.SwapMeetsLaws.{legal_of_meets, step_only}
+use Rattle.mr_step.proofs.SwapStepRuns.{memory_of}
 use Rattle.mr_step.proofs.EntryLaws.{enabled_is}
 use Rattle.mr_auto.proofs.Picks.{ArePicks}
 use Rattle.mr_fill.proofs.GivenPicks.{given_are}

@@ -2,8 +2,8 @@
 use Rattle.mr_fill.proofs.Common.{◌≡◌, ℕ, refl, sym, ap, ap₂, ◌∙◌, List, Bool, true, false, Option, Some, None, Result, Ok, Err, slice_get, if◌then◌else◌, Status, Chooser, Ask, State, needs, Config, is_running, Look, Own, thread_step, Next, asked_entry, enabled_entry, entry_at, entry_from, entry_in, entry_with, given, is_surplus, missing_code, within_limits, Turn}
 use Rattle.std.specs.Option.{option_map}
 use Rattle.mr_sched.specs.Rules.{code_of}
-use Rattle.mr_sync.specs.Tables.{is_enabled}
-use Rattle.mr_plan.specs.Legal.{Fault, creation_fault}
+use Rattle.mr_start.specs.SyncTables.{is_enabled}
+use Rattle.mr_step.specs.PlanLegal.{Fault, creation_fault}
 use Rattle.mr_sched.specs.declared.rule.ScheduleRule.TheVariants as rule
 
 -- a limit is reached

@@ -3,7 +3,7 @@ use Rattle.std.specs.Prelude.{◌≡◌, ℕ, ◌++◌, false, List, length, map
 use Rattle.std.specs.Option.{option_map}
 use Rattle.mr_sched.specs.declared.chooser.Chooser.{Chooser}
 use Rattle.mr_sched.specs.declared.schedule.Entry.{Entry}
-use Rattle.mr_plan.specs.Runs.{after}
+use Rattle.mr_step.specs.PlanRuns.{after}
 use Rattle.mr_start.specs.Steps.{thread_step}
 use Rattle.mr_step.specs.Standing.{Standing}
 use Rattle.mr_fill.specs.Filling.{Filling, filling}

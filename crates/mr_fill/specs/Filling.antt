@@ -13,10 +13,10 @@ use Rattle.mr_sched.specs.declared.schedule.Ask.{Ask}
 use Rattle.mr_sched.specs.declared.schedule.Ask.TheVariants.{Address, Waiter}
 use Rattle.mr_sched.specs.declared.schedule.Entry.{Entry}
 use Rattle.mr_sched.specs.declared.schedule.Schedule.{Schedule}
-use Rattle.mr_sync.specs.Tables.{is_enabled, on_lock}
-use Rattle.mr_plan.specs.Legal.{Fault, creation_fault}
-use Rattle.mr_plan.specs.Machine.{State, needs}
-use Rattle.mr_plan.specs.Runs.{Config, is_running}
+use Rattle.mr_start.specs.SyncTables.{is_enabled, on_lock}
+use Rattle.mr_step.specs.PlanLegal.{Fault, creation_fault}
+use Rattle.mr_step.specs.PlanMachine.{State, needs}
+use Rattle.mr_step.specs.PlanRuns.{Config, is_running}
 use Rattle.mr_start.specs.FrameFrames.{Look}
 use Rattle.mr_start.specs.Steps.{Own, thread_step}
 use Rattle.mr_start.specs.Runs.{program_step}

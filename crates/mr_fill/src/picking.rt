@@ -1,6 +1,6 @@
 //! The picks for what the step of a turn asks for.
 ghost use Rattle.std.specs.Prelude.{◌≡◌, IfOk, Some, slice_get};
-ghost use Rattle.mr_plan.specs.Machine.{State};
+ghost use Rattle.mr_step.specs.PlanMachine.{State};
 ghost use Rattle.mr_start.specs.Steps.{Own};
 ghost use Rattle.mr_auto.specs.Answers.{PickAnswer, PicksAnswer};
 ghost use Rattle.mr_auto.specs.Drawing.{waiting_in};

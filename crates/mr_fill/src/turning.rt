@@ -1,9 +1,9 @@
 //! The entry of a turn.
 ghost use Rattle.std.specs.Prelude.{◌≡◌, false, IfOk, Some};
-ghost use Rattle.mr_plan.specs.Machine.{State};
-ghost use Rattle.mr_plan.specs.Queries.{tables_of};
-ghost use Rattle.mr_plan.specs.Runs.{is_running};
-ghost use Rattle.mr_sync.specs.Tables.{IsEnabled};
+ghost use Rattle.mr_step.specs.PlanMachine.{State};
+ghost use Rattle.mr_step.specs.PlanQueries.{tables_of};
+ghost use Rattle.mr_step.specs.PlanRuns.{is_running};
+ghost use Rattle.mr_start.specs.SyncTables.{IsEnabled};
 ghost use Rattle.mr_start.specs.Steps.{Own};
 ghost use Rattle.mr_auto.specs.Answers.{HasState};
 ghost use Rattle.mr_fill.specs.Filling.{asked_entry, enabled_entry, entry_at, entry_in};

@@ -4,7 +4,7 @@ use Rattle.mr_ast.specs.declared.types.Ty.{roll-Ty}
 use Rattle.mr_layout.specs.EnumRules.{are_all_tags}
 use Rattle.mr_layout.proofs.WellFormed.{enum_ok}
 use Rattle.mr_typing.specs.Unbroken.{UnbrokenFunction}
-use Rattle.mr_ast.proofs.OrderHeads.{type_made}
+use Rattle.mr_ast.proofs.TypeInduction.{type_made}
 use Rattle.mr_typing.proofs.TypedStmts.{TypedAssign}
 use Rattle.mr_typing.proofs.UnbrokenLaws.{well_formed_keeps}
 use Rattle.mr_eval.specs.Environment.{PlaceIn, ValueIn, locals_of}

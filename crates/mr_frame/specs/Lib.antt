@@ -29,6 +29,7 @@ pub use Rattle.mr_plan.specs.Legal as PlanLegal
 pub use Rattle.mr_plan.specs.Limits as PlanLimits
 pub use Rattle.mr_plan.specs.Machine as PlanMachine
 pub use Rattle.mr_plan.specs.Notes as PlanNotes
+pub use Rattle.mr_plan.specs.Places as PlanPlaces
 pub use Rattle.mr_plan.specs.Queries as PlanQueries
 pub use Rattle.mr_plan.specs.Runs as PlanRuns
 pub use Rattle.mr_plan.specs.Storage as PlanStorage

@@ -22,6 +22,7 @@ use mr_mem::Memory;
 use mr_typing::{Checked, Known};
 use mr_value::Val;
 use std::alloc::{AllocError, Global};
+use std::mem::replace;
 
 /// What an intrinsic is given: the place for its result and the type of this, and the arguments with their types.
 #[derive(Drop)]
@@ -47,12 +48,13 @@ fn plain(t: Known<'_>) -> Ty
     if t.is_raw() { Ty::Raw } else { Ty::FnPtr }
 }
 
-// The types of arguments.
-fn types<'a>(alloc: Global, e: &Env<'a>, args: &'a [Value]) -> Result<Vec<Ty>, AllocError>
+// The types of arguments, in place of what a spare list holds.
+fn types<'a>(e: &Env<'a>, args: &'a [Value], spare: Vec<Ty>) -> Result<Vec<Ty>, AllocError>
     requires { All (PlainIn e.now) args.now }
     ensures { IfOk result (λ ts. arg_types (env_surround e.now) args.now ≡ Some ts.items) }
 {
-    let mut types = Vec::new(alloc);
+    let mut types = spare;
+    types.clear();
     for arg in args {
         types.push(plain(type_with(e, arg)))?;
     }
@@ -109,17 +111,18 @@ fn operands<'a>(
 {
     let at = result_place(alloc, e, m, n, place)?;
     let row = values(alloc, e, m, n, args)?;
-    typed(alloc, e, args, place, at, row)
+    let spare = replace(&mut n.spare_types, Vec::new(alloc));
+    typed(e, args, place, at, row, spare)
 }
 
 // The types beside what was evaluated.
 fn typed<'a>(
-    alloc: Global,
     e: &Env<'a>,
     args: &'a [Value],
     place: Option<&'a Place>,
     at: Option<Pointer>,
     row: Vec<Val>,
+    spare: Vec<Ty>,
 ) -> Result<DoCall, Fault>
     requires args { All (PlainIn e.now) args.now }
     requires place { ResultIn e.now (option_copied place) }
@@ -127,7 +130,7 @@ fn typed<'a>(
         (result_typed (env_surround e.now) (option_copied place.entry)) (arg_types (env_surround e.now) args.now) s)
         s refused }
 {
-    match types(alloc, e, args) {
+    match types(e, args, spare) {
         Ok(arg_types) => Ok(DoCall {
             result: at,
             result_type: result_type(e, place),

@@ -15,6 +15,7 @@ use mr_eval::{Env, Fault, Notes, value};
 use mr_mem::Memory;
 use mr_value::Val;
 use std::alloc::Global;
+use std::mem::replace;
 
 /// The values of expressions, from left to right.
 pub fn values(
@@ -29,7 +30,8 @@ pub fn values(
         (seen n.new) n.new.refused }
     ensures kept { Extends (seen n.old) (seen n.new) }
 {
-    let mut row = Vec::new(alloc);
+    let mut row = replace(&mut n.spare_values, Vec::new(alloc));
+    row.clear();
     for arg in args {
         match value(alloc, e, m, n, arg) {
             Err(fault) => return Err(fault),

@@ -47,10 +47,10 @@ pub use Rattle.mr_ast.specs.declared.words.TermWord.{TermWord}
 pub use Rattle.mr_ast.specs.declared.words.TreeWord.{TreeWord}
 pub use Rattle.mr_ast.specs.declared.words.TypeWord.{TypeWord}
 pub use Rattle.mr_ast.specs.declared.words.ValueWord.{ValueWord}
-pub use Rattle.mr_base.proofs.Comparisons.{eq_from, le_from, lt_from, lt_test}
-pub use Rattle.mr_base.proofs.Options.{some_is}
 pub use Rattle.mr_lex.specs.Pieces.{Blank, IsPiece, IsSymbol, Number, Piece, spelling_of, Symbol}
 pub use Rattle.mr_lex.specs.Tokens.{Lexeme, lexemes_at, lexemes_from}
+pub use Rattle.mr_words.proofs.BaseComparisons.{eq_from, le_from, lt_from, lt_test}
+pub use Rattle.mr_words.proofs.BaseOptions.{some_is}
 pub use Rattle.mr_words.proofs.PlaceLaws.{StandsIn, words_stand}
 pub use Rattle.mr_words.proofs.ScopeLaws.{named_at, number_within, scope_at, use_block, use_function, use_global, use_local}
 pub use Rattle.mr_words.specs.Defined.{function_names_in, knowing, unknown}

@@ -7,3 +7,4 @@ pub mod Shape
 pub mod Stops
 pub mod Tokens
 pub mod Walk
+pub use Rattle.mr_words.proofs.BaseOptions

@@ -3,3 +3,5 @@ pub mod Faults
 pub mod Insides
 pub mod Parsing
 pub mod Reading
+pub use Rattle.mr_words.specs.Defined as WordsDefined
+pub use Rattle.mr_words.specs.Places as WordsPlaces

@@ -3,10 +3,10 @@ pub use Rattle.std.proofs.Common.{◌&&◌, ◌+◌, ◌++◌, ◌-◌, ◌<◌,
 pub use Rattle.std.proofs.lemmas.Result.{IfOk-weaker}
 pub use Rattle.std.specs.List.{list_any, range_with_len}
 unfoldable pub use Rattle.mr_auto.specs.Drawing.{drawn_schedule}
+unfoldable pub use Rattle.mr_auto.specs.StartRuns.{steps_of}
 pub use Rattle.mr_event.specs.declared.footprint.Pair.{Pair}
 pub use Rattle.mr_replay.specs.Stands.{stands_of}
 pub use Rattle.mr_sched.specs.declared.schedule.Schedule.{Schedule}
-unfoldable pub use Rattle.mr_start.specs.Runs.{steps_of}
 pub use Rattle.mr_step.specs.PlanRuns.{Config, Printed}
 pub use Rattle.mr_hunt.specs.Aims.{aim_of, is_between, is_met, is_print}
 pub use Rattle.mr_hunt.specs.Ends.{ends_of, race_at, same_end, verdict_number}

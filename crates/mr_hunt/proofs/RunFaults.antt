@@ -3,11 +3,11 @@ use Rattle.mr_hunt.proofs.Common.{◌≡◌, ℕ, zero, suc, ◌≤◌, ◌^◌,
 use Rattle.mr_ast.specs.declared.program.Program.{Program}
 use Rattle.mr_sched.specs.declared.chooser.Chooser.{Chooser}
 use Rattle.mr_sched.specs.declared.schedule.Entry.{Entry}
-use Rattle.mr_start.specs.FrameFrames.{Look}
-use Rattle.mr_start.specs.Steps.{Own}
-use Rattle.mr_start.specs.Runs.{Legal, PlacedFault, program_step, schedule_fault}
-use Rattle.mr_start.specs.Start.{look_of, start_config}
-use Rattle.mr_start.proofs.RunLaws.{no_schedule_fault}
+use Rattle.mr_auto.specs.StartFrameFrames.{Look}
+use Rattle.mr_auto.specs.StartSteps.{Own}
+use Rattle.mr_auto.specs.StartRuns.{Legal, PlacedFault, program_step, schedule_fault}
+use Rattle.mr_auto.specs.StartStart.{look_of, start_config}
+use Rattle.mr_auto.proofs.StartRunLaws.{no_schedule_fault}
 use Rattle.mr_auto.specs.Drawing.{Next, Picked, drawn_entries, led, next_at, schedule_from, start_picked}
 
 none_some : {A : Type 0} {x : A} → ◌≡◌ {A = Option A} None (Some x) → ⊥

@@ -5,8 +5,8 @@ use Rattle.mr_base.specs.declared.reason.Verdict.{Verdict}
 use Rattle.mr_event.specs.Footprint.{Footprint}
 use Rattle.mr_event.specs.Predicted.{predicted}
 use Rattle.mr_step.specs.Standing.{Standing}
-use Rattle.mr_start.specs.Runs.{run_of}
-use Rattle.mr_start.specs.Steps.{Own}
+use Rattle.mr_auto.specs.StartRuns.{run_of}
+use Rattle.mr_auto.specs.StartSteps.{Own}
 use Rattle.mr_run.specs.Runs.{IsRun}
 use Rattle.mr_hunt.specs.declared.ends.End.TheVariants as shown
 

@@ -10,7 +10,7 @@ use Rattle.mr_event.specs.Predicted.{predicted}
 use Rattle.mr_rust_order.specs.Tests.{rust_races}
 use Rattle.mr_sched.specs.declared.schedule.Schedule.{Schedule}
 use Rattle.mr_step.specs.PlanRuns.{Printed}
-use Rattle.mr_start.specs.Runs.{run_of, steps_of}
+use Rattle.mr_auto.specs.StartRuns.{run_of, steps_of}
 use Rattle.mr_auto.specs.Drawing.{drawn_schedule}
 use Rattle.mr_labels.specs.declared.step.Stand.{Stand}
 use Rattle.mr_places.specs.Laid.{Laid, spot_at}

@@ -7,7 +7,7 @@ use Rattle.mr_base.specs.declared.reason.Verdict.TheVariants as verdict
 use Rattle.mr_event.specs.Predicted.{predicted}
 use Rattle.mr_event.specs.declared.footprint.Pair.{Pair}
 use Rattle.mr_sched.specs.declared.schedule.Schedule.{Schedule}
-use Rattle.mr_start.specs.Runs.{run_of, steps_of}
+use Rattle.mr_auto.specs.StartRuns.{run_of, steps_of}
 use Rattle.mr_auto.specs.Drawing.{drawn_schedule}
 use Rattle.mr_labels.specs.declared.step.Stand.{Stand}
 use Rattle.mr_replay.specs.Stands.{stands_of}

@@ -8,11 +8,11 @@ use Rattle.mr_event.specs.Predicted.{predicted}
 use Rattle.mr_event.specs.declared.footprint.Pair.{Pair}
 use Rattle.mr_rust_order.specs.Tests.{rust_races}
 use Rattle.mr_sched.specs.declared.schedule.Schedule.{Schedule}
-use Rattle.mr_start.specs.Runs.{run_of, steps_of}
+use Rattle.mr_auto.specs.StartRuns.{run_of, steps_of}
 use Rattle.mr_auto.specs.Drawing.{drawn_schedule}
 use Rattle.mr_places.specs.Laid.{Laid}
 use Rattle.mr_labels.specs.declared.step.Stand.{Stand}
-use Rattle.mr_report.specs.Report.{line, verdict_text}
+use Rattle.mr_listing.specs.ReportReport.{line, verdict_text}
 use Rattle.mr_listing.specs.Races.{races_text}
 use Rattle.mr_listing.specs.Seen.{Seen}
 use Rattle.mr_listing.specs.Spots.{stand_text}

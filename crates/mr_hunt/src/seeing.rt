@@ -1,6 +1,6 @@
 //! The run of a number, and what it shows.
 ghost use Rattle.std.specs.Prelude.{◌≡◌, ◌++◌, ◌≤◌, ◌^◌, IfOk, OnOk, length, map, option_copied, slice_get};
-ghost use Rattle.mr_start.specs.Runs.{Legal, run_of};
+ghost use Rattle.mr_auto.specs.StartRuns.{Legal, run_of};
 ghost use Rattle.mr_auto.specs.Drawing.{drawn_schedule};
 ghost use Rattle.mr_listing.specs.Races.{before_of};
 ghost use Rattle.mr_rust_order.specs.Tests.{rust_races};

@@ -2,7 +2,7 @@
 ghost use Rattle.std.specs.Prelude.{◌≡◌, [], ◌++◌, ◌≤◌, ◌^◌, IfOk, OnOk, codes, decimal, flat_map};
 ghost use Rattle.mr_listing.specs.Seen.{seen};
 ghost use Rattle.mr_listing.specs.Spots.{stand_text};
-ghost use Rattle.mr_report.specs.Report.{line, verdict_text};
+ghost use Rattle.mr_listing.specs.ReportReport.{line, verdict_text};
 ghost use Rattle.mr_rust_order.specs.Tests.{rust_races};
 ghost use Rattle.mr_hunt.specs.Aims.{aim_of};
 ghost use Rattle.mr_hunt.specs.Texts.{asks_rust, both_races, by_places, command_line, end_text, found_text, head_text};

@@ -6,9 +6,9 @@ use Rattle.std.specs.Prelude.{Some, None, Option, Result, Ok, Err, nat_lt, repli
 use Rattle.mr_ast.specs.declared.program.Program.{Program}
 use Rattle.mr_io.specs.Counts.{Rose}
 use Rattle.mr_lex.specs.Reading.{lexed, outcome_of, split_of}
-use Rattle.mr_grammar.specs.Faults.{OfTokens}
-use Rattle.mr_grammar.specs.Parsing.{parsed}
-use Rattle.mr_grammar.proofs.ParsingLaws.{fault_parsed}
+use Rattle.mr_parse.specs.GrammarFaults.{OfTokens}
+use Rattle.mr_parse.specs.GrammarParsing.{parsed}
+use Rattle.mr_parse.proofs.GrammarParsingLaws.{fault_parsed}
 use Rattle.mr_sched.specs.Reading.{schedule_of}
 use Rattle.mr_input.specs.Inputs.{Gives, IsRead, denoted, program_in, schedule_in, spelled}
 use Rattle.mr_input.specs.declared.refusal.Refusal.{Refusal}

@@ -3,7 +3,7 @@ use Rattle.std.specs.Prelude.{ℕ, List, [], Option, None, Some, Result, Ok, Err
 use Rattle.mr_ast.specs.declared.program.Program.{Program}
 use Rattle.mr_io.specs.Files.{Contents}
 use Rattle.mr_lex.specs.declared.token.TextFault.{TextFault}
-use Rattle.mr_grammar.specs.Parsing.{parsed}
+use Rattle.mr_parse.specs.GrammarParsing.{parsed}
 use Rattle.mr_sched.specs.declared.version.Read.{Read}
 use Rattle.mr_sched.specs.Reading.{Fault, schedule_of}
 use Rattle.mr_typing.specs.Walk.{faults_of}

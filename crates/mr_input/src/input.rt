@@ -3,7 +3,7 @@ ghost use Rattle.std.specs.Prelude.{◌≡◌, ℕ, ◌+◌, ◌^◌, ◌≤◌,
 ghost use Rattle.mr_ast.specs.Shaped.{Shaped};
 ghost use Rattle.mr_io.specs.Counts.{Rose};
 ghost use Rattle.mr_io.specs.Files.{Contents};
-ghost use Rattle.mr_grammar.specs.Parsing.{parsed};
+ghost use Rattle.mr_parse.specs.GrammarParsing.{parsed};
 ghost use Rattle.mr_sched.specs.Reading.{schedule_of};
 ghost use Rattle.mr_input.specs.Inputs.{denoted, program_in, schedule_in, spelled, text_refusal};
 ghost use Rattle.mr_input.specs.Inputs.{Gives, IsNoText, IsRead, IsUnreadFault};

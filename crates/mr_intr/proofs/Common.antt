@@ -1,5 +1,5 @@
 -- The names that most proofs of this crate cite, passed on from one place. Declares nothing.
-pub use Rattle.std.proofs.Common.{◌&&◌, ◌*◌, ◌+◌, ◌++◌, ◌-◌, ◌<◌, ◌==◌, [], ◌^◌, ap, append-nil, append_assoc, arith, Bool, drop, Err, false, get_or, if◌then◌else◌, is_some, length, List, nat_le, nat_lt, None, not, Ok, Option, option_copied, refl, Result, slice_get, Some, subst, sym, true, ℕ, ◌∙◌, ◌∷◌, ◌≡◌, ◌≢◌}
+pub use Rattle.std.proofs.Common.{◌&&◌, ◌*◌, ◌+◌, ◌++◌, ◌-◌, ◌<◌, ◌==◌, [], ◌^◌, ap, append-nil, append_assoc, arith, Bool, drop, Err, false, get_or, if◌then◌else◌, is_some, length, List, nat_le, nat_lt, None, not, Ok, Option, option_copied, refl, Result, slice_get, Some, subst, sym, take, true, ℕ, ◌∙◌, ◌∷◌, ◌≡◌, ◌≢◌}
 pub use Rattle.std.proofs.lemmas.Bool.{and_parts}
 pub use Rattle.std.proofs.lemmas.Option.{same_Some, slice_get_within}
 pub use Rattle.std.specs.List.{list_all}

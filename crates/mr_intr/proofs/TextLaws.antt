@@ -1,6 +1,6 @@
 -- The texts of values that are integers and bools.
-use Rattle.mr_intr.proofs.Common.{◌≡◌, ℕ, ◌+◌, ◌<◌, ◌-◌, refl, sym, ap, ◌∙◌, arith, List, [], ◌∷◌, ◌++◌, length, drop, get_or, append_assoc, Option, None, Some, Bool, true, list_all, and_parts, IntType, Ty, out-Ty, Val, out-Val, has_shape, gives_nothing, is_scalar_number, integer_of, Ask, Done, ◌>>=◌, run, HaveShapes, or_ill_formed, reading_part, Scene, Tables, Print, answer, memory_part, Fits, IsDone, begun, notes_in, operated, text_in, texts_in, bool_text, number_text, spaced, spaced_behind, text_layer, text_of, texts_of}
-use Rattle.std.proofs.Common.{zero, suc, ◌≤◌, take, add-one}
+use Rattle.mr_intr.proofs.Common.{◌≡◌, ℕ, ◌+◌, ◌<◌, ◌-◌, refl, sym, ap, ◌∙◌, arith, List, [], ◌∷◌, ◌++◌, length, take, drop, get_or, append_assoc, Option, None, Some, Bool, true, list_all, and_parts, IntType, Ty, out-Ty, Val, out-Val, has_shape, gives_nothing, is_scalar_number, integer_of, Ask, Done, ◌>>=◌, run, HaveShapes, or_ill_formed, reading_part, Scene, Tables, Print, answer, memory_part, Fits, IsDone, begun, notes_in, operated, text_in, texts_in, bool_text, number_text, spaced, spaced_behind, text_layer, text_of, texts_of}
+use Rattle.std.proofs.Common.{zero, suc, ◌≤◌, add-one}
 use Rattle.std.proofs.lemmas.List.{drop_all, take_all}
 use Rattle.std.proofs.Math.Seq.{drop-cons}
 use Rattle.std.specs.Option.{unwrap_or}

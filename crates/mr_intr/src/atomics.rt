@@ -18,12 +18,11 @@ use crate::args::{bits_at, integer_of, pointer_at};
 use crate::effect::Effect;
 use mr_ast::{IntType, Intrinsic, Ty};
 use mr_base::{Pointer, Reaching, Reason};
-use mr_eval::{ArithOp, Fault, Notes, Scene, arith, store_bytes};
+use mr_eval::{ArithOp, Fault, Notes, Scene, arith, store_scalar};
 use mr_layout::{align, int_bytes};
 use mr_mem::Memory;
 use mr_runs::View;
-use mr_value::{Val, bits_in, decode_scalar, encode};
-use std::alloc::Global;
+use mr_value::{Val, bits_in, decode_scalar, encode_scalar};
 
 // The number that lent bytes are.
 #[tactic(auto, using(crate::proofs::AtomicLaws::number_laws))]
@@ -73,7 +72,6 @@ fn load_number(
 // The atomic store of an integer whose range was checked.
 #[tactic(auto, using(crate::proofs::AtomicLaws::number_laws))]
 fn store_number(
-    alloc: Global,
     m: &mut Memory,
     notes: &mut Notes,
     p: Pointer,
@@ -85,10 +83,9 @@ fn store_number(
         (seen notes.new) notes.new.refused }
 {
     let size = int_bytes(int);
-    let mut bytes = Vec::new(alloc);
-    encode(alloc, &Val::Int(n), &Ty::Int(int), &mut bytes)?;
+    let bytes = encode_scalar(&Val::Int(n), &Ty::Int(int));
     notes.access(true, true, p, size)?;
-    match m.store(p, bytes.as_slice(), size) {
+    match m.store_numbers(p, bytes.numbers(), bytes.provenance, size) {
         Ok(()) => Ok(()),
         Err(fault) => {
             notes.refuse(Reaching::Changes, p, size);
@@ -99,7 +96,6 @@ fn store_number(
 
 // The number at a place, which another one replaces where it is the one that was expected.
 fn exchange(
-    alloc: Global,
     s: &mut Scene,
     p: Pointer,
     int: IntType,
@@ -113,7 +109,7 @@ fn exchange(
 {
     let found = load_number(&s.memory, &mut s.notes, Reaching::Changes, p, int)?;
     if found == expected {
-        store_number(alloc, &mut s.memory, &mut s.notes, p, int, new)?;
+        store_number(&mut s.memory, &mut s.notes, p, int, new)?;
     }
     Ok(found)
 }
@@ -150,14 +146,7 @@ fn fetched(op: Intrinsic, int: IntType, by: u128, found: u128) -> u128
 }
 
 // The number at a place, which the one behind the fetch replaces.
-fn replace(
-    alloc: Global,
-    s: &mut Scene,
-    op: Intrinsic,
-    p: Pointer,
-    int: IntType,
-    by: u128,
-) -> Result<u128, Fault>
+fn replace(s: &mut Scene, op: Intrinsic, p: Pointer, int: IntType, by: u128) -> Result<u128, Fault>
     requires op { IsFetch op }
     requires by { by < 2 ^ (8 * int_size int) }
     ensures told { Tells result (memory_answer (Modify p (int_size int) (fetched op int by)) (world_of s.old))
@@ -166,7 +155,7 @@ fn replace(
 {
     let found = load_number(&s.memory, &mut s.notes, Reaching::Changes, p, int)?;
     let new = fetched(op, int, by, found);
-    store_number(alloc, &mut s.memory, &mut s.notes, p, int, new)?;
+    store_number(&mut s.memory, &mut s.notes, p, int, new)?;
     Ok(found)
 }
 
@@ -188,12 +177,7 @@ pub fn atomic_load(args: &[Val], place: Option<&Ty>, s: &mut Scene) -> Result<Ef
 }
 
 /// The atomic store of an integer.
-pub fn atomic_store(
-    alloc: Global,
-    args: &[Val],
-    types: &[Ty],
-    s: &mut Scene,
-) -> Result<Effect, Fault>
+pub fn atomic_store(args: &[Val], types: &[Ty], s: &mut Scene) -> Result<Effect, Fault>
     requires { (place : Option Ty) × Fits intrinsic.AtomicStore args.now types.now place }
     ensures done { (place : Option Ty) (picks : List ℕ)
         → ChangesMemory intrinsic.AtomicStore result args.now types.now place picks s.old s.new }
@@ -201,26 +185,13 @@ pub fn atomic_store(
 {
     let p = pointer_at(args, 0);
     let t = &types[1];
-    let mut bytes = Vec::new(alloc);
-    encode(alloc, &args[1], t, &mut bytes)?;
-    store_bytes(
-        &mut s.memory,
-        &mut s.notes,
-        true,
-        p,
-        bytes.as_slice(),
-        align(t),
-    )?;
+    let bytes = encode_scalar(&args[1], t);
+    store_scalar(&mut s.memory, &mut s.notes, true, p, &bytes, align(t))?;
     Ok(Effect::quiet(None))
 }
 
 /// The number at a place, which another one replaces where it is the one that was expected.
-pub fn compare_exchange(
-    alloc: Global,
-    args: &[Val],
-    place: Option<&Ty>,
-    s: &mut Scene,
-) -> Result<Effect, Fault>
+pub fn compare_exchange(args: &[Val], place: Option<&Ty>, s: &mut Scene) -> Result<Effect, Fault>
     requires { (types : List Ty) × Fits intrinsic.CompareExchange args.now types (option_copied place) }
     ensures done { (types : List Ty) (picks : List ℕ)
         → ChangesMemory intrinsic.CompareExchange result args.now types (option_copied place.entry) picks s.old s.new }
@@ -229,13 +200,12 @@ pub fn compare_exchange(
     let p = pointer_at(args, 0);
     let expected = bits_at(args, 1);
     let new = bits_at(args, 2);
-    let found = exchange(alloc, s, p, integer_of(place), expected, new)?;
+    let found = exchange(s, p, integer_of(place), expected, new)?;
     Ok(Effect::quiet(Some(Val::Int(found))))
 }
 
 /// The number at a place, which is changed by an operator that wraps.
 pub fn fetch(
-    alloc: Global,
     op: Intrinsic,
     args: &[Val],
     place: Option<&Ty>,
@@ -249,6 +219,6 @@ pub fn fetch(
 {
     let p = pointer_at(args, 0);
     let by = bits_at(args, 1);
-    let found = replace(alloc, s, op, p, integer_of(place), by)?;
+    let found = replace(s, op, p, integer_of(place), by)?;
     Ok(Effect::quiet(Some(Val::Int(found))))
 }

@@ -12,13 +12,11 @@ use mr_ast::{Intrinsic, Ty};
 use mr_eval::{Fault, Scene};
 use mr_sync::SyncTable;
 use mr_value::Val;
-use std::alloc::Global;
 
 /// What an intrinsic does with arguments that fit it, for the scene's thread and with picks that break no rule.
 ///
 /// A refusal changes neither threads and locks nor the output.
 pub fn operate(
-    alloc: Global,
     op: Intrinsic,
     args: &[Val],
     arg_types: &[Ty],
@@ -47,14 +45,14 @@ pub fn operate(
         Intrinsic::CreateLock => create_lock(sync),
         Intrinsic::Acquire => acquire(args, s.thread, sync),
         Intrinsic::Release => release(args, s.thread, sync, picks),
-        Intrinsic::AtomicStore => atomic_store(alloc, args, arg_types, s),
+        Intrinsic::AtomicStore => atomic_store(args, arg_types, s),
         Intrinsic::AtomicLoad => atomic_load(args, result_type, s),
-        Intrinsic::CompareExchange => compare_exchange(alloc, args, result_type, s),
+        Intrinsic::CompareExchange => compare_exchange(args, result_type, s),
         Intrinsic::FetchAdd
         | Intrinsic::FetchSub
         | Intrinsic::FetchAnd
         | Intrinsic::FetchOr
-        | Intrinsic::FetchXor => fetch(alloc, op, args, result_type, s),
+        | Intrinsic::FetchXor => fetch(op, args, result_type, s),
         Intrinsic::Spawn | Intrinsic::Payload => unreachable!(),
     }
 }

@@ -1,6 +1,7 @@
 -- What is asked of each part of a list and of each two of them, apart; and the two as pairs of numbers.
-use Rattle.mr_layout.proofs.Common.{◌≡◌, ℕ, ◌+◌, ◌<◌, Bool, true, false, List, [], ◌∷◌, ◌++◌, drop, length, get_or, take, map, refl, sym, ap, ◌∙◌, arith, ◌||◌, not, ◌&&◌, ◌==◌, nat_le, nat_lt, if◌then◌else◌, list_any, or_parts, nat_tests, drop_more, list_any-IsPermutation, IntType, Num, Tag, Tree, Ty, Variant, int_size, is_fitting, not_empty, variant_key, case_key, tag_range, field_range, number_twice, case_twice, tags_meeting, each_variant, are_tags_fitting, is_some_tag_used, are_tags_alone, is_variant_tag_used, each_case, same_num, is_number_of, are_variants, meets_tag, is_some_used, are_tags, are_all_tags, is_case, is_tree, are_tree_cases, is_past, meets_any, is_overlapping, meets_chunk, is_chunk_overlapping, size_of, align_of}
+use Rattle.mr_layout.proofs.Common.{◌≡◌, ℕ, ◌+◌, ◌<◌, Bool, true, false, List, [], ◌∷◌, ◌++◌, drop, length, get_or, take, map, refl, sym, ap, ◌∙◌, arith, ◌||◌, not, ◌&&◌, ◌==◌, nat_le, nat_lt, if◌then◌else◌, list_any, or_parts, nat_tests, drop_more, IntType, Num, Tag, Tree, Ty, Variant, int_size, is_fitting, not_empty, variant_key, case_key, tag_range, field_range, number_twice, case_twice, tags_meeting, each_variant, are_tags_fitting, is_some_tag_used, are_tags_alone, is_variant_tag_used, each_case, same_num, is_number_of, are_variants, meets_tag, is_some_used, are_tags, are_all_tags, is_case, is_tree, are_tree_cases, is_past, meets_any, is_overlapping, meets_chunk, is_chunk_overlapping, size_of, align_of}
 use Rattle.std.proofs.lemmas.List.{map-append, take_more}
+use Rattle.std.proofs.lemmas.List.Sorted.{list_any-IsPermutation}
 use Rattle.mr_base.specs.Pairs.{some_pair, same_pair, are_meeting}
 use Rattle.mr_base.proofs.Twins.{some_pair_not_empty}
 use Rattle.mr_layout.specs.Alike.{AreKeys, number_key}

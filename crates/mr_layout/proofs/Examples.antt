@@ -1,6 +1,5 @@
 -- Types with their sizes and alignments, whether they have a value, their used bytes, and which types are written with them, computed.
-use Rattle.mr_layout.proofs.Common.{◌≡◌, ℕ, ◌*◌, Bool, true, false, [], ◌∷◌, sym, ap, ◌∙◌, not, U8, U16, U32, I16, I128, Ty, Ty-F, fold-roll-Ty, is_used, types_of, types_of_place, types_of_value, size_of, align_of, is_inhabited, variant_step}
-use Rattle.mr_layout.specs.Sizes.{inhabited_step}
+use Rattle.mr_layout.proofs.Common.{◌≡◌, ℕ, ◌*◌, Bool, true, false, [], ◌∷◌, sym, ap, ◌∙◌, not, U8, U16, U32, I16, I128, Ty, Ty-F, fold-roll-Ty, is_used, types_of, types_of_place, types_of_value, size_of, align_of, is_inhabited, inhabited_step, variant_step}
 use Rattle.mr_ast.specs.declared.types.Ty.TheVariants as ty
 use Rattle.mr_ast.specs.declared.expr.Place.TheVariants as place
 use Rattle.mr_ast.specs.declared.expr.Value.TheVariants as value

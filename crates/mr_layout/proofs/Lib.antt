@@ -28,3 +28,4 @@ pub mod UsedLaws
 pub mod WellFormed
 pub mod WrittenLaws
 pub mod WrittenParts
+pub use Rattle.mr_base.proofs.Comparisons as BaseComparisons

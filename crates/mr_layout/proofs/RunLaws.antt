@@ -1,5 +1,6 @@
 -- Ranges in order: which of them come behind a byte, and what a run of bytes meets of them.
-use Rattle.mr_layout.proofs.Common.{◌≡◌, ℕ, zero, suc, ◌+◌, ◌^◌, ◌<◌, ◌≤◌, ◌⊎◌, inl, inr, Bool, true, false, List, [], ◌∷◌, length, get_or, drop, refl, sym, ap, ◌∙◌, arith, subst, nat_lt, nat_le, ◌&&◌, ◌||◌, min, if◌then◌else◌, IsNonDecreasingBy, and_parts, and_from, and_left, or_from, or_left, both_ways, cases_lt, nat_tests, is_in, is_in_chunk, is_some_below, is_run_met, ranges_past, is_in_order, is_in_order_after, le_from, lt_from, lt_test, le_test}
+use Rattle.mr_layout.proofs.Common.{◌≡◌, ℕ, zero, suc, ◌+◌, ◌^◌, ◌<◌, ◌≤◌, ◌⊎◌, inl, inr, Bool, true, false, List, [], ◌∷◌, length, get_or, drop, refl, sym, ap, ◌∙◌, arith, subst, nat_lt, nat_le, ◌&&◌, ◌||◌, min, if◌then◌else◌, and_parts, and_from, and_left, or_from, or_left, both_ways, cases_lt, nat_tests, is_in, is_in_chunk, is_some_below, is_run_met, ranges_past, is_in_order, is_in_order_after, le_from, lt_from, lt_test, le_test}
+use Rattle.std.specs.List.Sorted.{IsNonDecreasingBy}
 use Rattle.std.proofs.lemmas.List.Sorted.{IsNonDecreasingBy-from_all_adjacent}
 use Rattle.mr_layout.proofs.Below.{some_at, none_below, same_tests}
 

@@ -1,5 +1,7 @@
 -- Whether a byte of a tag is used, by the ranges of the tags.
-use Rattle.mr_layout.proofs.Common.{◌≡◌, ℕ, zero, suc, ◌+◌, ◌-◌, ◌<◌, ◌≤◌, Bool, true, false, List, [], ◌∷◌, map, refl, sym, ap, ◌∙◌, arith, nat_lt, nat_le, ◌&&◌, ◌||◌, list_any, IsPermutation, and_parts, and_from, and_right, nat_tests, list_any-IsPermutation, Tag, Ty, int_size, is_fitting, not_empty, tag_range, are_tags_fitting, is_some_tag_used, is_some_used, is_in, is_in_part, is_in_chunk, is_used, is_some_below, is_met, le_from, lt_test, le_test, not_lt_test}
+use Rattle.mr_layout.proofs.Common.{◌≡◌, ℕ, zero, suc, ◌+◌, ◌-◌, ◌<◌, ◌≤◌, Bool, true, false, List, [], ◌∷◌, map, refl, sym, ap, ◌∙◌, arith, nat_lt, nat_le, ◌&&◌, ◌||◌, list_any, and_parts, and_from, and_right, nat_tests, Tag, Ty, int_size, is_fitting, not_empty, tag_range, are_tags_fitting, is_some_tag_used, is_some_used, is_in, is_in_part, is_in_chunk, is_used, is_some_below, is_met, le_from, lt_test, le_test, not_lt_test}
+use Rattle.std.specs.List.Sorted.{IsPermutation}
+use Rattle.std.proofs.lemmas.List.Sorted.{list_any-IsPermutation}
 use Rattle.mr_layout.proofs.Below.{none_below, same_tests}
 use Rattle.mr_layout.proofs.GapLaws.{in_not_empty}
 use Rattle.mr_layout.proofs.RowLaws.{met_none, met_one}

@@ -1,16 +1,14 @@
 //! The layouts of the types of a program.
-ghost use Rattle.std.specs.Prelude.{◌≡◌, ◌<◌, ◌^◌, ◌↔◌, [], ◌∷◌, ◌++◌, All, Contains, Some, false, slice_get, IsTrue, OnOk, IfOk, IfSome, IfNone};
-ghost use Rattle.std.specs.Ordering.{is_lt};
-ghost use Rattle.mr_ast.specs.Order.{int_number, ty_cmp};
-ghost use Rattle.mr_layout.specs.Sizes.{size_of};
+ghost use Rattle.std.specs.Prelude.{◌≡◌, All, Contains, Some, slice_get, OnOk, IfOk, IfSome, IfNone};
 ghost use Rattle.mr_layout.specs.TypeOk.{TypeOk};
 ghost use Rattle.mr_layout.specs.Written.{written_types};
 ghost use Rattle.mr_layout.specs.Cached.{IsCacheOf, Adds};
-ghost use Rattle.mr_layout.specs.Layouts.{layout_of, held_types, AreIntegers, AreRising};
+ghost use Rattle.mr_layout.specs.Layouts.{layout_of, held_types};
 
 use crate::sizes::{align, inhabited, int_bytes, size};
 use crate::written::find_types;
-use mr_ast::{IntType, OutOfMemory, Program, Ty};
+use indexmap::IndexMap;
+use mr_ast::{IntType, OutOfMemory, Program, TextKey, Ty};
 use std::alloc::Global;
 use std::marker::Model;
 
@@ -25,22 +23,14 @@ pub struct Layout {
     pub inhabited: bool,
 }
 
-// A type, as it stands in the program, and its layout.
-#[derive(Clone, Copy)]
-struct Entry<'p> {
-    ty: &'p Ty,
-    layout: Layout,
-}
-
 /// The layouts of some types of a program, each worked out once. The types are lent, and not copied.
 ///
-/// A contract sees the list of the types, which stand in the order of types. The layout that is kept for each is the one
-/// that is defined for it.
+/// A contract sees the list of the types, in the order in which they were first put there. The layout that is kept for each is
+/// the one that is defined for it. A look-up goes by the type's hash, and the hashes by the key of the program's whole text
+/// (`TextKey`).
 #[derive(Drop)]
 pub struct Cache<'p> {
-    entries: Vec<Entry<'p>>,
-    /// The layouts of the integer types, whether or not they are held.
-    integers: [Layout; 10],
+    entries: IndexMap<&'p Ty, Layout, TextKey>,
 }
 
 impl<'p> Model for Cache<'p> {
@@ -54,11 +44,11 @@ impl<'p> Model for Cache<'p> {
 
     ghost coded = { Prim.hlevel (codes, ty.the_row.coded) };
 
-    ghost use Rattle.mr_layout.specs.Layouts.{held_types, AreDefined, AreIntegers, AreRising};
+    ghost use Rattle.mr_layout.specs.Layouts.{held_types, AreDefined};
 
-    ghost view = { λ c. held_types c.entries.items };
+    ghost view = { λ c. held_types c.entries.entries };
 
-    ghost invariant = { λ c. AreDefined c.entries.items × AreRising c.entries.items × AreIntegers c.integers };
+    ghost invariant = { λ c. AreDefined c.entries.entries };
 }
 
 impl<'p> Cache<'p> {
@@ -67,11 +57,9 @@ impl<'p> Cache<'p> {
         requires { All TypeOk (written_types p.now) }
         ensures { IfOk result (λ cache. IsCacheOf cache p.now) }
     {
-        let mut found = find_types(alloc, p)?;
-        found.sort();
+        let found = find_types(alloc, p)?;
         let mut cache = Cache {
-            entries: Vec::new(alloc),
-            integers: integer_layouts(),
+            entries: IndexMap::with_hasher(alloc, p.names.key()),
         };
         for t in found.as_slice() {
             cache.add(*t)?;
@@ -80,12 +68,13 @@ impl<'p> Cache<'p> {
     }
 
     /// The layout of a type, and `None` where the type isn't held. It takes no memory.
+    #[tactic(auto, using(crate::proofs::CacheLaws::place_within))]
     pub fn get(&self, t: &Ty) -> Option<&Layout>
         ensures found { IfSome result (λ layout. Contains self.now t.now × (layout.now ≡ layout_of t.now)) }
         ensures missing { IfNone result (¬ Contains self.now t.now) }
     {
-        let at = position(self.entries.as_slice(), t)?;
-        Some(&self.entries[at].layout)
+        let at = position(&self.entries, t)?;
+        Some(&self.entries[at])
     }
 
     /// The layout of a well-formed type: the one that is held, or one that is worked out where the type isn't held. It takes no memory.
@@ -94,7 +83,7 @@ impl<'p> Cache<'p> {
         ensures { result ≡ layout_of t.now }
     {
         match t {
-            Ty::Int(int) => self.integers[row_of(*int)],
+            Ty::Int(int) => integer_layout(*int),
             Ty::Bool | Ty::Raw | Ty::FnPtr | Ty::Ref { .. } => defined_layout(t),
             Ty::Tuple { .. } | Ty::Array { .. } | Ty::Union { .. } | Ty::Enum { .. } =>
                 self.held_layout(t),
@@ -112,22 +101,25 @@ impl<'p> Cache<'p> {
         }
     }
 
-    // Puts a type last that isn't held, and that none of those that are held stands above.
+    // Puts a type last where it isn't held.
     fn add(&mut self, t: &'p Ty) -> Result<(), OutOfMemory>
-        requires ok { TypeOk t.now }
-        requires last { All (λ held. is_lt (ty_cmp t.now held) ≡ false) self.old }
+        requires { TypeOk t.now }
         ensures { OnOk result (Adds self.old t.now self.new) }
     {
-        if is_last(self.entries.as_slice(), t) {
+        if self.entries.contains_key(&t) {
             return Ok(());
         }
-        let entry = Entry {
-            ty: t,
-            layout: defined_layout(t),
-        };
-        self.entries.push(entry)?;
+        self.entries.insert(t, defined_layout(t))?;
         Ok(())
     }
+}
+
+// Where the entry of a type stands.
+fn position<'a>(entries: &IndexMap<&'a Ty, Layout, TextKey>, t: &'a Ty) -> Option<usize>
+    ensures found { IfSome result (λ at. slice_get (held_types entries.now.entries) at ≡ Some t.now) }
+    ensures missing { IfNone result (¬ Contains (held_types entries.now.entries) t.now) }
+{
+    entries.get_index_of(&t)
 }
 
 // The layout of a type.
@@ -147,72 +139,15 @@ fn defined_layout(t: &Ty) -> Layout
     }
 }
 
-// Whether a type is held, where none of those that are held stands above it: it can only be the last.
-fn is_last(entries: &[Entry<'_>], t: &Ty) -> bool
-    requires rising { AreRising entries.now }
-    requires last { All (λ held. is_lt (ty_cmp t.now held) ≡ false) (held_types entries.now) }
-    ensures { IsTrue result ↔ Contains (held_types entries.now) t.now }
-{
-    match entries.last() {
-        Some(entry) => entry.ty.same(t),
-        None => false,
-    }
-}
-
-// Where the entry of a type stands.
-fn position(entries: &[Entry<'_>], t: &Ty) -> Option<usize>
-    requires { AreRising entries.now }
-    ensures found { IfSome result (λ at. slice_get (held_types entries.now) at ≡ Some t.now) }
-    ensures missing { IfNone result (¬ Contains (held_types entries.now) t.now) }
-{
-    entries.binary_search_by(|entry| entry.ty.order(t)).ok()
-}
-
-// The place of an integer type among all.
-fn row_of(int: IntType) -> usize
-    ensures { result ≡ int_number int }
-{
-    match int {
-        IntType::U8 => 0,
-        IntType::U16 => 1,
-        IntType::U32 => 2,
-        IntType::U64 => 3,
-        IntType::U128 => 4,
-        IntType::I8 => 5,
-        IntType::I16 => 6,
-        IntType::I32 => 7,
-        IntType::I64 => 8,
-        IntType::I128 => 9,
-    }
-}
-
-// The layout of an integer type.
-#[tactic(auto, using(crate::proofs::SizeLaws::size_laws))]
+// The layout of an integer type, which is aligned to its size.
+#[tactic(auto, using(crate::proofs::CacheLaws::layout_int))]
 fn integer_layout(int: IntType) -> Layout
     ensures { result ≡ layout_of (Ty.Int int) }
 {
-    let t = Ty::Int(int);
+    let bytes = int_bytes(int);
     Layout {
-        size: int_bytes(int),
-        align: align(&t),
-        inhabited: inhabited(&t),
+        size: bytes,
+        align: bytes,
+        inhabited: true,
     }
-}
-
-// The layouts of all integer types, each in its place.
-fn integer_layouts() -> [Layout; 10]
-    ensures { AreIntegers result }
-{
-    [
-        integer_layout(IntType::U8),
-        integer_layout(IntType::U16),
-        integer_layout(IntType::U32),
-        integer_layout(IntType::U64),
-        integer_layout(IntType::U128),
-        integer_layout(IntType::I8),
-        integer_layout(IntType::I16),
-        integer_layout(IntType::I32),
-        integer_layout(IntType::I64),
-        integer_layout(IntType::I128),
-    ]
 }

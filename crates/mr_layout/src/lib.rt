@@ -15,7 +15,7 @@
 //! - [`Cache::new`]: a cache that holds each type written in a program, whole or as a part of another, once, and no other type
 //!   (`specs/Written.antt`, `specs/Cached.antt`). Its condition is that these types are well-formed.
 //! - [`Cache::get`]: the [`Layout`] that is defined for a type, lent by the cache, and `None` exactly where the type isn't held
-//!   (`specs/Layouts.antt`). The types stand in their order, and it compares with one for each time that it halves them.
+//!   (`specs/Layouts.antt`). It goes by the type's hash, and looks through no other types.
 //! - [`Cache::layout`]: the layout of any well-formed type, worked out only where the type isn't held.
 //!
 //! Tuples, unions and enums carry their size and alignment, and this crate takes them as written. The rules are on what is written,

@@ -147,15 +147,11 @@ fn broken(store: &mut Store, t: &Ty, table: &mut [u8], start: u64) -> Result<boo
             align,
             fields,
             chunks,
-        } => broken_union(
-            store,
-            *size,
-            *align,
-            fields.as_slice(),
-            chunks.as_slice(),
-            table,
-            start,
-        ),
+        } => {
+            let fields = fields.as_slice();
+            let chunks = chunks.as_slice();
+            broken_union(store, *size, *align, fields, chunks, table, start)
+        }
         Ty::Enum {
             size,
             align,

@@ -1,15 +1,13 @@
 //! The types that are written in a program.
 ghost use Rattle.std.specs.Prelude.{◌≡◌, ◌++◌, [], ◌∷◌, map, OnOk, IfOk};
 ghost use Rattle.std.specs.List.{flat_map};
-ghost use Rattle.std.specs.List.Sorted.{IsPermutation, IsSorted};
-ghost use Rattle.mr_ast.specs.Order.{ty_cmp};
 ghost use Rattle.mr_layout.specs.Written.{types_of, types_of_fields, types_of_variants, types_of_place, types_of_value, types_of_values, types_of_result, types_of_stmt, types_of_term, types_of_locals, types_of_block, types_of_function, written_types};
 
 use mr_ast::{Block, Function, Local, OutOfMemory, Place, Program, Stmt, Term, Ty, Value, Variant};
 use std::alloc::Global;
 use std::marker::Model;
 
-/// Types that stand in a program: in the order in which they were found, and once they are sorted in the order of types.
+/// Types that stand in a program, in the order in which they were found.
 ///
 /// A contract sees the list of the types.
 #[derive(Drop)]
@@ -45,14 +43,6 @@ impl<'a> Found<'a> {
         ensures { map (λ t. t.now) result.now ≡ self.now }
     {
         self.types.as_slice()
-    }
-
-    /// Puts them in the order of types.
-    pub(crate) fn sort(&mut self)
-        ensures same { IsPermutation self.old self.new }
-        ensures sorted { IsSorted ty_cmp self.new }
-    {
-        self.types.sort_unstable_by(|a, b| a.order(*b));
     }
 
     fn push(&mut self, t: &'a Ty) -> Result<(), OutOfMemory>

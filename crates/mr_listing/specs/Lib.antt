@@ -11,3 +11,4 @@ pub mod Sorted
 pub mod Spoken
 pub mod Spots
 pub mod Steps
+pub use Rattle.mr_report.specs.Report as ReportReport

@@ -3,11 +3,11 @@ pub use Rattle.std.proofs.Common.{◌+◌, ◌++◌, ◌-◌, ◌<◌, ◌==◌,
 pub use Rattle.std.proofs.lemmas.List.{map-append, take_more}
 pub use Rattle.std.specs.List.{find, range_with_len}
 pub use Rattle.mr_labels.proofs.Growing.{appended_next}
-pub use Rattle.mr_plan.specs.Legal.{Fault}
-pub use Rattle.mr_plan.specs.Machine.{needs, State}
 pub use Rattle.mr_sched.specs.declared.schedule.Entry.{Entry}
 pub use Rattle.mr_step.specs.Answers.{fault_of}
 pub use Rattle.mr_step.specs.FrameFrames.{Look}
+pub use Rattle.mr_step.specs.PlanLegal.{Fault}
+pub use Rattle.mr_step.specs.PlanMachine.{needs, State}
 pub use Rattle.mr_step.specs.Standing.{Standing}
 pub use Rattle.mr_step.specs.StartRuns.{program_fault}
 pub use Rattle.mr_step.specs.ThreadSteps.{Own, thread_step}

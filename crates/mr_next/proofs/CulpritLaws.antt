@@ -3,12 +3,12 @@ use Rattle.mr_next.proofs.Common.{◌≡◌, ℕ, zero, suc, ◌+◌, ◌-◌, �
 use Rattle.std.proofs.Common.{true}
 use Rattle.std.proofs.lemmas.Option.{same_Some}
 use Rattle.mr_base.specs.declared.thread.Status.{Status}
-use Rattle.mr_mem.specs.Memory.{Ranges, range_fault, ranges_of, with_range}
+use Rattle.mr_step.specs.MemMemory.{Ranges, range_fault, ranges_of, with_range}
 use Rattle.mr_sched.specs.declared.schedule.Ask.{Ask}
 use Rattle.mr_sched.specs.declared.schedule.Ask.TheVariants.{Address, Waiter}
-use Rattle.mr_sync.specs.Tables.{on_lock}
-use Rattle.mr_plan.specs.Legal.{address_fault, count_of, creation_fault, else_fault, fault, needs_fault, picks_fault, state_fault, status_fault}
-use Rattle.mr_plan.specs.Runs.{Config, entry_fault, fault_in, is_running}
+use Rattle.mr_step.specs.SyncTables.{on_lock}
+use Rattle.mr_step.specs.PlanLegal.{address_fault, count_of, creation_fault, else_fault, fault, needs_fault, picks_fault, state_fault, status_fault}
+use Rattle.mr_step.specs.PlanRuns.{Config, entry_fault, fault_in, is_running}
 use Rattle.mr_next.specs.Culprits.{with_picks}
 use Rattle.mr_sched.specs.declared.rule.ScheduleRule.TheVariants as rule
 

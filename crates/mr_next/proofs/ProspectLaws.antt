@@ -1,7 +1,7 @@
 -- What threads would do next, one after the other.
 use Rattle.mr_next.proofs.Common.{◌≡◌, ℕ, ◌+◌, refl, sym, ap, ◌∙◌, [], ◌∷◌, ◌++◌, length, map, Option, Some, None, range_with_len, map-append, State, Look, Own, prospect_in}
 use Rattle.std.proofs.Common.{zero-add}
-use Rattle.mr_exchange.proofs.Lists.{range_with_len-parts}
+use Rattle.mr_step.proofs.ExchangeLists.{range_with_len-parts}
 use Rattle.mr_next.specs.Prospects.{prospects_in}
 
 -- one number more

@@ -3,9 +3,9 @@ use Rattle.mr_next.proofs.Common.{◌≡◌, ℕ, zero, suc, ◌+◌, ◌-◌, �
 use Rattle.std.proofs.Common.{drop}
 use Rattle.std.proofs.lemmas.Option.{same_Some}
 use Rattle.mr_ast.specs.declared.program.Program.{Program}
-use Rattle.mr_event.specs.Footprint.{Footprint}
+use Rattle.mr_run.specs.EventFootprint.{Footprint}
 use Rattle.mr_sched.specs.declared.schedule.Schedule.{Schedule}
-use Rattle.mr_plan.specs.Runs.{AreLegal, Config, after}
+use Rattle.mr_step.specs.PlanRuns.{AreLegal, Config, after}
 use Rattle.mr_step.specs.StartRuns.{PlacedFault, at_line, entries_fault, program_step, run_of, schedule_fault}
 use Rattle.mr_step.specs.StartStart.{look_of, start_config}
 use Rattle.mr_step.specs.Answers.{StartAnswer}

@@ -3,8 +3,8 @@ use Rattle.std.specs.Prelude.{ℕ, ◌+◌, ◌==◌, ◌&&◌, nat_lt, Bool, fa
 use Rattle.std.specs.List.{find, range_with_len}
 use Rattle.std.specs.Option.{option_map_or}
 use Rattle.mr_sched.specs.declared.schedule.Entry.{Entry}
-use Rattle.mr_plan.specs.Legal.{Fault}
-use Rattle.mr_plan.specs.Runs.{Config}
+use Rattle.mr_step.specs.PlanLegal.{Fault}
+use Rattle.mr_step.specs.PlanRuns.{Config}
 use Rattle.mr_step.specs.FrameFrames.{Look}
 use Rattle.mr_step.specs.ThreadSteps.{Own}
 use Rattle.mr_step.specs.StartRuns.{program_fault}

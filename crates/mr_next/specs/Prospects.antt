@@ -6,10 +6,10 @@ use Rattle.mr_base.specs.declared.thread.Status.{Status}
 use Rattle.mr_base.specs.declared.thread.Status.TheVariants.{OnLock}
 use Rattle.mr_sched.specs.declared.schedule.Ask.{Ask}
 use Rattle.mr_sched.specs.declared.schedule.Ask.TheVariants as ask
-use Rattle.mr_sync.specs.Tables.{holder_of, is_enabled}
-use Rattle.mr_plan.specs.Legal.{creation_fault}
-use Rattle.mr_plan.specs.Machine.{State, needs}
-use Rattle.mr_plan.specs.Queries.{tables_of}
+use Rattle.mr_step.specs.SyncTables.{holder_of, is_enabled}
+use Rattle.mr_step.specs.PlanLegal.{creation_fault}
+use Rattle.mr_step.specs.PlanMachine.{State, needs}
+use Rattle.mr_step.specs.PlanQueries.{tables_of}
 use Rattle.mr_step.specs.FrameFrames.{Look}
 use Rattle.mr_step.specs.ThreadSteps.{Own, thread_step}
 use Rattle.mr_auto.specs.Drawing.{waiting_in}

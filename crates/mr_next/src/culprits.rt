@@ -1,7 +1,7 @@
 //! The pick by which an entry breaks a rule.
 ghost use Rattle.std.specs.Prelude.{◌≡◌, ◌+◌, ◌==◌, ◌^◌, ◌<◌, ◌≤◌, IfOk, OnOk, Some, false, length, true};
 ghost use Rattle.std.specs.List.{find, range_with_len};
-ghost use Rattle.mr_plan.specs.Legal.{Fault};
+ghost use Rattle.mr_step.specs.PlanLegal.{Fault};
 ghost use Rattle.mr_step.specs.StartRuns.{program_fault};
 ghost use Rattle.mr_next.specs.Culprits.{breaks_with, culprit_of, is_of_pick, with_picks};
 

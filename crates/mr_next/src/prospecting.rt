@@ -1,10 +1,10 @@
 //! What each thread of a machine would do next.
 ghost use Rattle.std.specs.Prelude.{◌≡◌, [], false, IfOk, None, Some, map};
 ghost use Rattle.std.specs.List.{range_with_len};
-ghost use Rattle.mr_plan.specs.Legal.{creation_fault};
-ghost use Rattle.mr_plan.specs.Machine.{State, needs};
-ghost use Rattle.mr_plan.specs.Queries.{tables_of};
-ghost use Rattle.mr_sync.specs.Tables.{IsEnabled};
+ghost use Rattle.mr_step.specs.PlanLegal.{creation_fault};
+ghost use Rattle.mr_step.specs.PlanMachine.{State, needs};
+ghost use Rattle.mr_step.specs.PlanQueries.{tables_of};
+ghost use Rattle.mr_step.specs.SyncTables.{IsEnabled};
 ghost use Rattle.mr_step.specs.ThreadSteps.{Own, thread_step};
 ghost use Rattle.std.specs.Option.{option_map};
 ghost use Rattle.mr_next.specs.Prospects.{holder_for, limit_in, prospect_in, prospects_in, want_of, wants_in};

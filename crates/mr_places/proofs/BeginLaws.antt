@@ -4,8 +4,8 @@ use Rattle.mr_ast.specs.declared.program.Program.{Program}
 use Rattle.mr_ast.specs.declared.program.Stmt.{Stmt}
 use Rattle.mr_ast.specs.Words.{Texts}
 use Rattle.mr_lex.specs.Tokens.{Lexeme}
-use Rattle.mr_words.specs.Places.{numbered, words_from, words_of}
-use Rattle.mr_words.specs.Defined.{knowing}
+use Rattle.mr_grammar.specs.WordsPlaces.{numbered, words_from, words_of}
+use Rattle.mr_grammar.specs.WordsDefined.{knowing}
 use Rattle.mr_grammar.specs.Denotes.{Denotes, IsFine, definitions_in, words_in}
 use Rattle.mr_grammar.proofs.Walk.Rows.{fine_parts}
 use Rattle.mr_places.specs.Places.{BeginWith}

@@ -4,7 +4,7 @@ use Rattle.std.proofs.Common.{◌≤◌, get_or, MatchOption}
 use Rattle.std.specs.List.{sum_by}
 use Rattle.std.proofs.lemmas.List.{append-nil}
 use Rattle.std.proofs.lemmas.List.Sums.{sum_by-cons}
-use Rattle.mr_base.proofs.Options.{some_is}
+use Rattle.mr_grammar.proofs.BaseOptions.{some_is}
 use Rattle.mr_lex.specs.Tokens.{Lexeme}
 use Rattle.mr_places.specs.declared.places.Spot.{Spot}
 use Rattle.mr_places.specs.Laid.{first_in, spot_behind, spot_in}

@@ -2,7 +2,7 @@
 use Rattle.mr_places.proofs.Common.{◌≡◌, ℕ, zero, suc, ◌+◌, ◌-◌, Bool, true, false, if◌then◌else◌, List, [], ◌∷◌, ◌++◌, length, take, slice_get, codes, Option, Some, None, refl, ap, sym, ◌∙◌, subst, arith, nat_le, append_assoc, Word, Mark, Cases, Either, EachSpelled, Scope, Writing, ◌◂◌, assign_form, stmt_behind, term_behind, stmt_form, term_form, Spelled, is_end}
 use Rattle.std.specs.List.{sum_by}
 use Rattle.std.proofs.lemmas.List.Sums.{sum_by-cons}
-use Rattle.mr_base.proofs.Options.{some_is}
+use Rattle.mr_grammar.proofs.BaseOptions.{some_is}
 use Rattle.mr_ast.specs.declared.program.Stmt.{Stmt}
 use Rattle.mr_ast.specs.declared.program.Term.{Term}
 use Rattle.mr_ast.specs.Writing.{fine}

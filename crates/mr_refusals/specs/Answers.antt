@@ -2,7 +2,7 @@
 use Rattle.std.specs.Prelude.{◌≡◌, ◌≤◌, ◌⊎◌, ℕ, List, [], ◌∷◌, ◌++◌, codes, length, Option, None, Some, Result, Ok, Err}
 use Rattle.mr_ast.specs.declared.program.Program.{Program}
 use Rattle.mr_lex.specs.declared.token.TextFault.{TextFault}
-use Rattle.mr_grammar.specs.Parsing.{parsed}
+use Rattle.mr_parse.specs.GrammarParsing.{parsed}
 use Rattle.mr_typing.specs.declared.fault.FormFault.{FormFault}
 use Rattle.mr_typing.specs.Walk.{faults_of}
 use Rattle.mr_sched.specs.declared.schedule.Schedule.{Schedule}
@@ -10,9 +10,9 @@ use Rattle.mr_sched.specs.declared.version.Read.{Read}
 use Rattle.mr_sched.specs.declared.version.Version.{Version}
 use Rattle.mr_sched.specs.Reading.{schedule_of}
 use Rattle.mr_sched.specs.Reading as sched
-use Rattle.mr_plan.specs.Legal.{Fault}
-use Rattle.mr_start.specs.Runs.{PlacedFault, schedule_fault}
-use Rattle.mr_start.specs.Start.{start_fault}
+use Rattle.mr_run.specs.StepPlanLegal.{Fault}
+use Rattle.mr_run.specs.StartRuns.{PlacedFault, schedule_fault}
+use Rattle.mr_run.specs.StartStart.{start_fault}
 use Rattle.mr_input.specs.Answer.{Answer, seen}
 use Rattle.mr_refusals.specs.declared.checking.Reading.{Reading}
 use Rattle.mr_refusals.specs.declared.checking.Reading.TheVariants as reading

@@ -5,7 +5,7 @@ use Rattle.std.specs.List.{filter}
 use Rattle.mr_ast.specs.declared.program.Program.{Program}
 use Rattle.mr_ast.specs.Words.{Texts}
 use Rattle.mr_lex.specs.declared.token.TextFault.{TextFault}
-use Rattle.mr_grammar.specs.Parsing.{parsed}
+use Rattle.mr_parse.specs.GrammarParsing.{parsed}
 
 -- ---- the words that are tried
 

@@ -5,11 +5,11 @@ use Rattle.mr_sched.specs.declared.schedule.Entry.{Entry}
 use Rattle.mr_sched.specs.declared.schedule.Schedule.{Schedule}
 use Rattle.mr_sched.specs.declared.version.Version.{Version}
 use Rattle.mr_sched.specs.Versions.{line_in}
-use Rattle.mr_plan.specs.Runs.{Config}
-use Rattle.mr_start.specs.FrameFrames.{Look}
-use Rattle.mr_start.specs.Steps.{Own}
-use Rattle.mr_start.specs.Runs.{PlacedFault, run_of}
-use Rattle.mr_start.specs.Start.{look_of}
+use Rattle.mr_run.specs.StepPlanRuns.{Config}
+use Rattle.mr_run.specs.FrameFrames.{Look}
+use Rattle.mr_run.specs.StartSteps.{Own}
+use Rattle.mr_run.specs.StartRuns.{PlacedFault, run_of}
+use Rattle.mr_run.specs.StartStart.{look_of}
 use Rattle.mr_next.specs.Culprits.{culprit_of}
 use Rattle.mr_next.specs.Reached.{legal_front}
 use Rattle.mr_next.specs.Texts.{broken_text}

@@ -2,10 +2,10 @@
 ghost use Rattle.std.specs.Prelude.{◌≡◌, ◌^◌, ◌≤◌, Ok, IfOk, length};
 ghost use Rattle.mr_ast.specs.Shaped.{Shaped};
 ghost use Rattle.mr_ast.specs.declared.program.Program.{Program};
-ghost use Rattle.mr_grammar.specs.Parsing.{parsed};
+ghost use Rattle.mr_parse.specs.GrammarParsing.{parsed};
 ghost use Rattle.mr_sched.specs.Reading.{schedule_of};
-ghost use Rattle.mr_start.specs.Runs.{schedule_fault};
-ghost use Rattle.mr_start.specs.Start.{start_fault};
+ghost use Rattle.mr_run.specs.StartRuns.{schedule_fault};
+ghost use Rattle.mr_run.specs.StartStart.{start_fault};
 ghost use Rattle.mr_input.specs.Answer.{seen};
 ghost use Rattle.mr_next.specs.Reached.{GoesTo};
 ghost use Rattle.mr_refusals.specs.Answers.{IsReading, IsStatus, entries_answer, form_answer, line_answer};

@@ -1,6 +1,6 @@
 //! What may stand at a place of a text.
 ghost use Rattle.std.specs.Prelude.{◌≡◌, ◌++◌, IfOk, OnOk, codes, map};
-ghost use Rattle.mr_grammar.specs.Parsing.{parsed};
+ghost use Rattle.mr_parse.specs.GrammarParsing.{parsed};
 ghost use Rattle.mr_refusals.specs.Going.{a_number, end_told, fault_in, fixed_words, goes, if_going, is_of_names};
 ghost use Rattle.mr_refusals.specs.Going.{is_past, is_whole, keywords, may_go, may_stand, named_told, tried};
 ghost use Rattle.mr_refusals.specs.Going.{word_told, words_told};

@@ -5,12 +5,12 @@ use Rattle.std.specs.Option.{option_map}
 use Rattle.mr_base.specs.declared.thread.Status.{Status}
 use Rattle.mr_frame.specs.Frames.{Look}
 use Rattle.mr_frame.specs.declared.stack.At.{At}
-use Rattle.mr_plan.specs.Queries.{tables_of}
-use Rattle.mr_plan.specs.Runs.{Config}
+use Rattle.mr_frame.specs.PlanQueries.{tables_of}
+use Rattle.mr_frame.specs.PlanRuns.{Config}
 use Rattle.mr_sched.specs.declared.schedule.Ask.{Ask}
 use Rattle.mr_step.specs.Standing.{place_in}
 use Rattle.mr_step.proofs.EntryLaws.{enabled_is}
-use Rattle.mr_sync.specs.Tables.{IsEnabled, is_enabled}
+use Rattle.mr_step.specs.SyncTables.{IsEnabled, is_enabled}
 use Rattle.mr_replay.specs.Told.{asks_from, stand_from, stand_with, status_from, status_of, threads_from}
 
 module _ (c : Config Own) (t : ℕ) where

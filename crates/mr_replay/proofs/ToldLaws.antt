@@ -7,8 +7,8 @@ use Rattle.std.specs.Prelude.{option_to_list}
 use Rattle.mr_ast.specs.declared.program.Program.{Program}
 use Rattle.mr_base.specs.declared.byte.AllocId.{AllocId}
 use Rattle.mr_frame.specs.Frames.{Look}
-use Rattle.mr_plan.specs.Machine.{Language}
-use Rattle.mr_plan.specs.Runs.{Config, after, machine_step}
+use Rattle.mr_frame.specs.PlanMachine.{Language}
+use Rattle.mr_frame.specs.PlanRuns.{Config, after, machine_step}
 use Rattle.mr_sched.specs.declared.schedule.Schedule.{Schedule}
 use Rattle.mr_step.specs.StartRuns.{program_step}
 use Rattle.mr_step.specs.Answers.{StartAnswer}

@@ -11,15 +11,15 @@ use Rattle.mr_base.specs.declared.thread.Status.{Status}
 use Rattle.mr_event.specs.Footprint.{Footprint}
 use Rattle.mr_frame.specs.Frames.{Look}
 use Rattle.mr_frame.specs.declared.stack.At.{At}
-use Rattle.mr_plan.specs.Machine.{State, needs}
-use Rattle.mr_plan.specs.Runs.{Config, after}
+use Rattle.mr_frame.specs.PlanMachine.{State, needs}
+use Rattle.mr_frame.specs.PlanRuns.{Config, after}
 use Rattle.mr_sched.specs.declared.schedule.Ask.{Ask}
 use Rattle.mr_sched.specs.declared.schedule.Entry.{Entry}
 use Rattle.mr_sched.specs.declared.schedule.Schedule.{Schedule}
 use Rattle.mr_step.specs.StartRuns.{program_step}
 use Rattle.mr_step.specs.StartStart.{look_of, start_config}
 use Rattle.mr_step.specs.Standing.{place_in}
-use Rattle.mr_sync.specs.Tables.{is_enabled}
+use Rattle.mr_step.specs.SyncTables.{is_enabled}
 use Rattle.mr_step.specs.ThreadSteps.{Own, thread_step}
 use Rattle.mr_labels.specs.declared.step.Rest.{Rest}
 use Rattle.mr_labels.specs.declared.step.Stand.{Stand}

@@ -1,9 +1,9 @@
 //! Where threads stand, and what they ask for.
 ghost use Rattle.std.specs.Prelude.{◌≡◌, false, IfOk, Some};
 ghost use Rattle.std.specs.Option.{option_map};
-ghost use Rattle.mr_plan.specs.Machine.{State, needs};
-ghost use Rattle.mr_plan.specs.Queries.{tables_of};
-ghost use Rattle.mr_sync.specs.Tables.{IsEnabled};
+ghost use Rattle.mr_frame.specs.PlanMachine.{State, needs};
+ghost use Rattle.mr_frame.specs.PlanQueries.{tables_of};
+ghost use Rattle.mr_step.specs.SyncTables.{IsEnabled};
 ghost use Rattle.mr_step.specs.ThreadSteps.{Own, thread_step};
 ghost use Rattle.mr_replay.specs.Told.{asks_at, asks_by, stand_of, stand_with, started_by, started_in, status_of};
 

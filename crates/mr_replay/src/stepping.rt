@@ -1,7 +1,7 @@
 //! The run of a program under a schedule, and where the threads of its steps stood.
 ghost use Rattle.std.specs.Prelude.{◌≡◌, ◌+◌, ◌++◌, ◌∷◌, ◌^◌, ◌<◌, ◌≤◌, [], List, OnOk, false, length, map};
 ghost use Rattle.mr_event.specs.Footprint.{Footprint as FootprintOf};
-ghost use Rattle.mr_plan.specs.Runs.{feet};
+ghost use Rattle.mr_frame.specs.PlanRuns.{feet};
 ghost use Rattle.mr_step.specs.StartRuns.{steps_of};
 ghost use Rattle.mr_step.specs.ThreadSteps.{thread_step};
 ghost use Rattle.mr_run.specs.Records.{HasRoom};

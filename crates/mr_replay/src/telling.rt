@@ -2,7 +2,7 @@
 ghost use Rattle.std.specs.Prelude.{◌≡◌, ◌+◌, ◌++◌, ◌^◌, ◌<◌, ◌≤◌, [], List, IfErr, IfOk, IsTrue, OnOk, false, flat_map, length};
 ghost use Rattle.std.specs.Prelude.{option_copied};
 ghost use Rattle.mr_event.specs.Footprint.{Footprint as FootprintOf};
-ghost use Rattle.mr_plan.specs.Runs.{feet};
+ghost use Rattle.mr_frame.specs.PlanRuns.{feet};
 ghost use Rattle.mr_step.specs.StartRuns.{steps_of};
 ghost use Rattle.mr_step.specs.ThreadSteps.{thread_step};
 ghost use Rattle.mr_run.specs.Records.{HasRoom};

@@ -15,6 +15,8 @@
 //! - [`first_witness`]: the witness for the first race, the kept or the short one.
 //! - [`is_of_first`]: whether a schedule is of thread 0 alone.
 //!
+//! It hands on the [`Machine`] of `mr_step`, and what a step of it is refused for ([`StepFault`]).
+//!
 //! Laws: [`one_thread_shows_no_race`]; [`steps_and_entries`] (each entry completes one step at most, and each but the
 //! last of a legal schedule does).
 //!
@@ -35,5 +37,6 @@ pub use fault::RunFault;
 pub use keeping::{Nothing, Record};
 pub use laws::{one_thread_shows_no_race, steps_and_entries};
 pub use mr_event::{Footprint, OutOfMemory, Pair};
+pub use mr_step::{Machine, StepFault};
 pub use running::{run, step};
 pub use witnesses::{Selection, first_witness};

@@ -1,5 +1,5 @@
 -- A run of thread 0 alone has no race by either order, so that what is told of its races needs no footprint.
-use Rattle.mr_show.proofs.Common.{◌≡◌, ℕ, zero, suc, refl, sym, ap, ap₂, ◌∙◌, arith, Bool, true, false, List, [], ◌∷◌, ◌++◌, length, Option, Some, None, ◌==◌, ◌&&◌, flat_map, Result, Ok, Err, Program, Footprint, Entry, Schedule, Standing, steps_of, RunFault, RunAnswer, Stand, Seen, either, Answer, spoken_of, Part, part_answer, IsToldAs, gathered}
+use Rattle.mr_show.proofs.Common.{◌≡◌, ℕ, zero, suc, refl, sym, subst, ap, ap₂, inl, inr, ◌∙◌, arith, Bool, true, false, List, [], ◌∷◌, ◌++◌, length, Option, Some, None, ◌==◌, ◌&&◌, flat_map, Result, Ok, Err, Program, Footprint, Entry, Schedule, Standing, steps_of, RunFault, RunAnswer, Stand, Seen, either, Answer, spoken_of, Part, part_answer, IsToldAs, gathered}
 use Rattle.std.proofs.lemmas.Bool.Decides.{nat_tests}
 use Rattle.mr_event.specs.Order.{thread_at}
 use Rattle.mr_event.specs.Predicted.{predicted}
@@ -21,8 +21,8 @@ use Rattle.mr_two_orders.specs.Standing.{head_line}
 use Rattle.mr_two_orders.specs.Texts.{machine_text, rust_texts, two_orders_text}
 use Rattle.mr_answer.specs.Report.{report_status}
 use Rattle.mr_replay.specs.Stands.{stands_of}
-use Rattle.mr_show.specs.declared.form.Part.TheVariants.{Json, Order, Picture, Races, Steps, TwoOrders}
-use Rattle.mr_show.specs.Answer.{lists_races}
+use Rattle.mr_show.specs.declared.form.Part.TheVariants.{Races, TwoOrders}
+use Rattle.mr_show.specs.Answer.{IsOfRaces}
 use Rattle.mr_event.specs.Order as order
 
 both_true : (a b : Bool) → (a && b) ≡ true → (a ≡ true) × (b ≡ true)
@@ -116,14 +116,12 @@ module _ (text : List ℕ) (p : Program) (w : Schedule) (alone : are_of_first w.
       ∙ sym (ap (λ (pairs : List Pair). part_answer TwoOrders (spoken_of p w) [] (record (with_all c) { races = pairs })) (none_shown p w alone))
 
   -- ITS RACES ARE TOLD without its footprints
-  pub alone_told : (outcome : Result Standing RunFault) → RunAnswer p w outcome → (part : Part) → lists_races part ≡ true
+  pub alone_told : (outcome : Result Standing RunFault) → RunAnswer p w outcome → (part : Part) → IsOfRaces part
       → IsToldAs part text p w [] [] [] [] outcome
   alone_told (Err f) run part is = tt
-  alone_told (Ok m) run Races is =
-      ap (λ (c : Config Own). part_answer Races (spoken_of p w) [] (without c)) run.config ∙ races_told (run_of p w)
-  alone_told (Ok m) run TwoOrders is =
-      ap (λ (c : Config Own). part_answer TwoOrders (spoken_of p w) [] (without c)) run.config ∙ orders_told (run_of p w)
-  alone_told (Ok m) run (Steps from to) is = absurd (cc)
-  alone_told (Ok m) run Json is = absurd (cc)
-  alone_told (Ok m) run (Order first second) is = absurd (cc)
-  alone_told (Ok m) run (Picture asked) is = absurd (cc)
+  alone_told (Ok m) run part (inl is) =
+      subst (λ (q : Part). IsToldAs q text p w [] [] [] [] (Ok m)) (sym is)
+      (ap (λ (c : Config Own). part_answer Races (spoken_of p w) [] (without c)) run.config ∙ races_told (run_of p w))
+  alone_told (Ok m) run part (inr is) =
+      subst (λ (q : Part). IsToldAs q text p w [] [] [] [] (Ok m)) (sym is)
+      (ap (λ (c : Config Own). part_answer TwoOrders (spoken_of p w) [] (without c)) run.config ∙ orders_told (run_of p w))

@@ -4,7 +4,6 @@ pub use Rattle.std.proofs.lemmas.Result.{IfOk-weaker}
 pub use Rattle.std.specs.List.{find, range_with_len}
 pub use Rattle.mr_ast.specs.declared.program.Program.{Program}
 pub use Rattle.mr_event.specs.Footprint.{Footprint}
-unfoldable pub use Rattle.mr_grammar.specs.Parsing.{parsed}
 pub use Rattle.mr_hunt.specs.Aims.{aim_of, first_met}
 pub use Rattle.mr_input.proofs.InputLaws.{less, longer, rose_in_all, was_read}
 pub use Rattle.mr_input.proofs.RefusedLaws.{refused_over, same_refusal}
@@ -17,7 +16,7 @@ pub use Rattle.mr_labels.specs.declared.step.Stand.{Stand}
 unfoldable pub use Rattle.mr_lex.specs.Reading.{lexed}
 pub use Rattle.mr_lex.specs.declared.token.TextFault.{TextFault}
 pub use Rattle.mr_listing.specs.Seen.{Seen, seen}
-pub use Rattle.mr_plan.specs.Legal.{Fault}
+unfoldable pub use Rattle.mr_places.specs.GrammarParsing.{parsed}
 pub use Rattle.mr_replay.specs.Spoken.{spoken_of}
 pub use Rattle.mr_run.specs.Runs.{RunAnswer}
 pub use Rattle.mr_run.specs.declared.fault.RunFault.{RunFault}
@@ -27,6 +26,7 @@ pub use Rattle.mr_sched.specs.declared.version.Read.{Read}
 pub use Rattle.mr_sched.specs.declared.version.Version.{Version}
 pub use Rattle.mr_start.specs.Runs.{PlacedFault}
 unfoldable pub use Rattle.mr_start.specs.Runs.{schedule_fault, steps_of}
+pub use Rattle.mr_step.specs.PlanLegal.{Fault}
 pub use Rattle.mr_step.specs.Standing.{Standing}
 unfoldable pub use Rattle.mr_trace.specs.Reading.{trace_of}
 unfoldable pub use Rattle.mr_traced.specs.Places.{named_of}

@@ -10,3 +10,4 @@ pub mod NextLaws
 pub mod ShownLaws
 pub mod TracedLaws
 pub mod UnreadLaws
+pub use Rattle.mr_input.proofs.EndingLaws as InputEndingLaws

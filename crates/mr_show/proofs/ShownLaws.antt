@@ -1,8 +1,8 @@
 -- What is said of a run, from how its parts are answered.
 use Rattle.mr_show.proofs.Common.{◌≡◌, ℕ, ◌<◌, ◌≤◌, ◌^◌, arith, ap, sym, ◌∙◌, subst, length, List, [], inl, inr, OnOk, Option, None, Some, Result, Ok, Err, Program, lexed, TextFault, parsed, FormFault, WellFormed, Footprint, Schedule, Version, PlacedFault, steps_of, Standing, RunFault, RunAnswer, Refusal, Written, Answer, Tells, TellsOrUnread, form_or, told, Gives, IsNoText, denoted, program_in, refused_over, same_refusal, Allocation, Stand, Part, Saying, spoken_of, answer_under, file_answer, part_answer, part_values, program_answer, rows_in, run_seen, stands_in, steps_in, told_values, gathered, IsOfFile, IsOfText, IsToldAs}
 use Rattle.mr_lex.specs.Tokens.{Lexeme}
-use Rattle.mr_grammar.specs.Faults.{OfTokens}
-use Rattle.mr_grammar.proofs.ParsingLaws.{fault_parsed}
+use Rattle.mr_places.specs.GrammarFaults.{OfTokens}
+use Rattle.mr_places.proofs.GrammarParsingLaws.{fault_parsed}
 use Rattle.mr_start.proofs.RunLaws.{no_schedule_fault}
 use Rattle.mr_run.specs.declared.fault.RunFault.TheVariants.{Broken, Memory}
 use Rattle.mr_run.specs.Runs.{IsFirstFault, IsRun}

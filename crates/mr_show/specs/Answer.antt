@@ -1,16 +1,16 @@
 -- What a call answers by definition: a text and a status, from the words and what the files hold.
-use Rattle.std.specs.Prelude.{ℕ, ◌^◌, Bool, true, false, List, [], ◌++◌, codes, decimal, flat_map, length, map, Option, None, Some}
+use Rattle.std.specs.Prelude.{◌≡◌, ◌⊎◌, ℕ, ◌^◌, List, [], ◌++◌, codes, decimal, flat_map, length, map, Option, None, Some}
 use Rattle.std.specs.Prelude.{if◌then◌else◌}
 use Rattle.mr_ast.specs.declared.program.Program.{Program}
 use Rattle.mr_io.specs.Files.{Contents}
-use Rattle.mr_grammar.specs.Parsing.{parsed}
+use Rattle.mr_places.specs.GrammarParsing.{parsed}
 use Rattle.mr_sched.specs.declared.schedule.Schedule.{Schedule}
 use Rattle.mr_sched.specs.declared.version.Read.{Read}
 use Rattle.mr_sched.specs.declared.version.Version.{Version}
 use Rattle.mr_start.specs.Runs.{run_of, schedule_fault, steps_of}
 use Rattle.mr_start.specs.Start.{ask_of, pieces}
 use Rattle.mr_typing.specs.Walk.{faults_of}
-use Rattle.mr_report.specs.Report.{line}
+use Rattle.mr_listing.specs.ReportReport.{line}
 use Rattle.mr_input.specs.declared.refusal.Refusal.TheVariants as refusal
 use Rattle.mr_input.specs.Answer.{Answer, form_or, refused, told}
 use Rattle.mr_input.specs.Inputs.{denoted, schedule_in}
@@ -86,14 +86,9 @@ stands_in (Some part) p w = []
 abbrev pub first_rows : Program → List ℕ → List Allocation
 first_rows p picks = start_rows p (map ask_of (pieces p)) picks
 
--- whether a part tells of races alone, of which a run of one thread has none
-abbrev pub lists_races : Part → Bool
-lists_races Races = true
-lists_races TwoOrders = true
-lists_races (Steps from to) = false
-lists_races Json = false
-lists_races (Order first second) = false
-lists_races (Picture asked) = false
+-- a part tells of races alone, of which a run of one thread has none
+abbrev pub IsOfRaces : Part → Type 0
+IsOfRaces part = (part ≡ Races) ⊎ (part ≡ TwoOrders)
 
 -- THE ALLOCATIONS of a run, in the order in which they are made
 abbrev pub run_rows : Program → Schedule → List Allocation

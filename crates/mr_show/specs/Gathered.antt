@@ -6,7 +6,7 @@ use Rattle.mr_lex.specs.Tokens.{Lexeme}
 use Rattle.mr_lex.specs.declared.token.TextFault.{TextFault}
 use Rattle.mr_event.specs.Footprint.{Footprint}
 use Rattle.mr_event.specs.Predicted.{predicted}
-use Rattle.mr_plan.specs.Runs.{Config}
+use Rattle.mr_step.specs.PlanRuns.{Config}
 use Rattle.mr_start.specs.Steps.{Own}
 use Rattle.mr_answer.specs.Report.{line_of}
 use Rattle.mr_places.specs.Laid.{Laid, firsts_of}

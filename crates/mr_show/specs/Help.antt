@@ -1,6 +1,6 @@
 -- The texts of help.
 use Rattle.std.specs.Prelude.{ℕ, List, ◌++◌, codes}
-use Rattle.mr_report.specs.Report.{line}
+use Rattle.mr_listing.specs.ReportReport.{line}
 use Rattle.mr_show.specs.declared.form.Topic.{Topic}
 use Rattle.mr_show.specs.declared.form.Topic.TheVariants.{Everything, OfCheck, OfFill, OfHunt, OfNext, OfOrdered}
 use Rattle.mr_show.specs.declared.form.Topic.TheVariants.{OfJson, OfPicture, OfRaces, OfRust, OfSteps, OfWhy}

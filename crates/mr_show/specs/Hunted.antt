@@ -1,7 +1,7 @@
 -- What the runs of many numbers tell.
 use Rattle.std.specs.Prelude.{ℕ, ◌+◌, ◌-◌, ◌^◌, List, [], min, Option, None, Some}
 use Rattle.mr_ast.specs.declared.program.Program.{Program}
-use Rattle.mr_grammar.specs.Parsing.{parsed}
+use Rattle.mr_places.specs.GrammarParsing.{parsed}
 use Rattle.mr_lex.specs.Reading.{lexed}
 use Rattle.mr_typing.specs.Walk.{faults_of}
 use Rattle.mr_auto.specs.Drawing.{drawn_schedule}

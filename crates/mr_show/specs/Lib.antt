@@ -14,3 +14,5 @@ pub mod Seek
 pub mod Sentences
 pub mod Traced
 pub mod Unread
+pub use Rattle.mr_input.specs.Ending as InputEnding
+pub use Rattle.mr_input.specs.Writing as InputWriting

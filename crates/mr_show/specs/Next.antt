@@ -7,8 +7,8 @@ use Rattle.mr_lex.specs.Reading.{lexed}
 use Rattle.mr_sched.specs.declared.schedule.Entry.{Entry}
 use Rattle.mr_sched.specs.declared.schedule.Schedule.{Schedule}
 use Rattle.mr_sched.specs.declared.version.Version.{Version}
-use Rattle.mr_plan.specs.Legal.{Fault}
-use Rattle.mr_plan.specs.Runs.{Config}
+use Rattle.mr_step.specs.PlanLegal.{Fault}
+use Rattle.mr_step.specs.PlanRuns.{Config}
 use Rattle.mr_start.specs.FrameFrames.{Look}
 use Rattle.mr_start.specs.Steps.{Own}
 use Rattle.mr_start.specs.Runs.{PlacedFault, run_of, schedule_fault}

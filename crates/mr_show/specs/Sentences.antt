@@ -3,7 +3,7 @@ use Rattle.std.specs.Prelude.{ℕ, List, [], Option, None, Some}
 use Rattle.mr_base.specs.Reasons.{code_of}
 use Rattle.mr_base.specs.declared.reason.Verdict.{Verdict}
 use Rattle.mr_base.specs.declared.reason.Verdict.TheVariants.{Undefined}
-use Rattle.mr_report.specs.Report.{line}
+use Rattle.mr_listing.specs.ReportReport.{line}
 use Rattle.mr_why.specs.Why.{Entry, entry_of}
 
 -- the sentence of an entry of the table of codes

@@ -5,7 +5,7 @@ ghost use Rattle.mr_ast.specs.Shaped.{Shaped};
 ghost use Rattle.mr_ast.specs.declared.program.Program.{Program as ProgramOf};
 ghost use Rattle.mr_io.specs.Counts.{Rose};
 ghost use Rattle.mr_io.specs.Files.{Contents};
-ghost use Rattle.mr_grammar.specs.Parsing.{parsed};
+ghost use Rattle.mr_places.specs.GrammarParsing.{parsed};
 ghost use Rattle.mr_lex.specs.Reading.{lexed};
 ghost use Rattle.mr_hunt.specs.Aims.{Aim as AimOf, aim_of, first_met};
 ghost use Rattle.mr_input.specs.Answer.{IsStatus, Tells, seen as written_as};

@@ -2,7 +2,7 @@
 ghost use Rattle.std.specs.Prelude.{◌≡◌, ◌<◌, ◌≤◌, ◌^◌, ◌++◌, Ok, IfOk, length};
 ghost use Rattle.mr_clocks.specs.Tracked.{Tracks};
 ghost use Rattle.mr_event.specs.Predicted.{predicted};
-ghost use Rattle.mr_grammar.specs.Parsing.{parsed};
+ghost use Rattle.mr_places.specs.GrammarParsing.{parsed};
 ghost use Rattle.mr_input.specs.Answer.{IsStatus, seen as written_as};
 ghost use Rattle.mr_replay.specs.Spoken.{spoken_of};
 ghost use Rattle.mr_listing.specs.Seen.{seen};

@@ -1,7 +1,7 @@
 //! How the run of a program under a schedule can go on.
 ghost use Rattle.std.specs.Prelude.{◌≡◌, ◌++◌, ◌^◌, ◌≤◌, Ok, IfOk, OnOk, codes, false, length, map, option_copied};
 ghost use Rattle.mr_base.specs.declared.reason.Verdict.TheVariants.{Deadlock};
-ghost use Rattle.mr_grammar.specs.Parsing.{parsed};
+ghost use Rattle.mr_places.specs.GrammarParsing.{parsed};
 ghost use Rattle.mr_start.specs.Runs.{schedule_fault};
 ghost use Rattle.mr_input.specs.Answer.{IsStatus, Tells, seen as written_as};
 ghost use Rattle.mr_input.specs.Inputs.{IsUnreadFault};

@@ -1,6 +1,6 @@
 //! The places of a program in its text.
 ghost use Rattle.std.specs.Prelude.{◌≡◌, Ok, IfOk};
-ghost use Rattle.mr_grammar.specs.Parsing.{parsed};
+ghost use Rattle.mr_places.specs.GrammarParsing.{parsed};
 ghost use Rattle.mr_lex.specs.Reading.{lexed};
 ghost use Rattle.mr_show.specs.Gathered.{laid_in};
 

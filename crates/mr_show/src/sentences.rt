@@ -1,6 +1,6 @@
 //! What codes say, in sentences.
 ghost use Rattle.std.specs.Prelude.{◌≡◌, ◌++◌, OnOk};
-ghost use Rattle.mr_report.specs.Report.{line};
+ghost use Rattle.mr_listing.specs.ReportReport.{line};
 ghost use Rattle.mr_show.specs.Sentences.{reason_text, sentence_of};
 
 use mr_base::Verdict;

@@ -1,14 +1,14 @@
 //! What is said of the run of the program in one file under the schedule in another.
-ghost use Rattle.std.specs.Prelude.{◌≡◌, ℕ, ◌+◌, ◌^◌, ◌<◌, ◌≤◌, List, None, Some, Ok, IfOk, OnOk, length, true};
+ghost use Rattle.std.specs.Prelude.{◌≡◌, ℕ, ◌+◌, ◌^◌, ◌<◌, ◌≤◌, List, None, Some, Ok, IfOk, IsTrue, OnOk, length, true};
 ghost use Rattle.mr_ast.specs.Shaped.{Shaped};
 ghost use Rattle.mr_io.specs.Counts.{Rose};
 ghost use Rattle.mr_io.specs.Files.{Contents};
-ghost use Rattle.mr_grammar.specs.Parsing.{parsed};
+ghost use Rattle.mr_places.specs.GrammarParsing.{parsed};
 ghost use Rattle.mr_input.specs.Answer.{IsStatus, Tells, TellsOrUnread, told};
 ghost use Rattle.mr_input.specs.Inputs.{IsUnreadFault, schedule_in};
 ghost use Rattle.mr_run.specs.Runs.{HasPlace, RunAnswer, are_of_first};
 ghost use Rattle.mr_show.specs.Answer.{answer_under, drawn_between, first_rows, next_under, ran_answer};
-ghost use Rattle.mr_show.specs.Answer.{lists_races, ran_under, told_for};
+ghost use Rattle.mr_show.specs.Answer.{IsOfRaces, ran_under, told_for};
 ghost use Rattle.mr_show.specs.Answering.{IsOfFile, IsOfProgram, IsOfText, IsToldAs};
 
 use crate::filled::filled_file;
@@ -317,13 +317,14 @@ fn ran_stands(
     )
 }
 
-// Whether a part tells of races alone.
+// Whether a part tells of races alone. One of which it says no is told in the same way, with more kept of the run.
 fn lists_races(part: Part) -> bool
-    ensures { result ≡ lists_races part }
+    ensures { IsTrue result → IsOfRaces part }
 {
     match part {
-        Part::Races | Part::TwoOrders => true,
-        Part::Steps { .. } | Part::Json | Part::Order { .. } | Part::Picture { .. } => false,
+        Part::Races => true,
+        Part::TwoOrders => true,
+        _ => false,
     }
 }
 
@@ -338,7 +339,7 @@ fn ran_alone(
 ) -> Result<Written, Refusal>
     requires few { length w.now.entries ≤ 2 ^ 22 }
     requires parsed { parsed text.now ≡ Ok p.now }
-    requires races { lists_races part ≡ true }
+    requires races { IsOfRaces part }
     requires alone { are_of_first w.now.entries ≡ true }
     ensures answer { Tells (ran_answer part text.now p.now v w.now) result }
     ensures status { IfOk result (λ a. IsStatus a.status) }

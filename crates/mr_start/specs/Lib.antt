@@ -17,8 +17,10 @@ pub use Rattle.mr_frame.specs.Fits as FrameFits
 pub use Rattle.mr_frame.specs.Frames as FrameFrames
 pub use Rattle.mr_frame.specs.Operations as FrameOperations
 pub use Rattle.mr_frame.specs.PlanLegal
+pub use Rattle.mr_frame.specs.PlanLimits
 pub use Rattle.mr_frame.specs.PlanMachine
 pub use Rattle.mr_frame.specs.PlanNotes
+pub use Rattle.mr_frame.specs.PlanPlaces
 pub use Rattle.mr_frame.specs.PlanQueries
 pub use Rattle.mr_frame.specs.PlanRuns
 pub use Rattle.mr_frame.specs.Sites as FrameSites
@@ -26,5 +28,7 @@ pub use Rattle.mr_frame.specs.Steps as FrameSteps
 pub use Rattle.mr_frame.specs.Switches as FrameSwitches
 pub use Rattle.mr_intr.specs.Operations as IntrOperations
 pub use Rattle.mr_intr.specs.Texts as IntrTexts
+pub use Rattle.mr_mem.specs.Memory as MemMemory
+pub use Rattle.mr_sync.specs.Tables as SyncTables
 pub use Rattle.mr_typing.specs.Types as TypingTypes
 pub use Rattle.mr_typing.specs.Walk as TypingWalk

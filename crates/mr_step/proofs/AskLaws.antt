@@ -4,7 +4,7 @@ use Rattle.mr_base.specs.declared.reason.Verdict.TheVariants.{Running}
 use Rattle.mr_plan.specs.Machine.{needs_of}
 use Rattle.mr_plan.specs.Queries.{answer}
 use Rattle.mr_base.specs.Script.{run}
-use Rattle.mr_start.specs.Steps.{own_step}
+use Rattle.mr_exchange.specs.StartSteps.{own_step}
 use Rattle.mr_turn.specs.Asking.{step_needs}
 use Rattle.mr_step.specs.Advance.{CanAsk}
 use Rattle.mr_frame.specs.declared.look.Look.{Look as KeptLook}

@@ -5,6 +5,7 @@ pub use Rattle.std.specs.Option.{option_map}
 pub use Rattle.mr_ast.specs.declared.program.Program.{Program}
 pub use Rattle.mr_eval.specs.declared.scene.Scene.{Scene}
 pub use Rattle.mr_event.specs.Footprint.{Footprint}
+pub use Rattle.mr_exchange.specs.StartSteps.{Own, thread_step}
 pub use Rattle.mr_frame.specs.Frames.{Look}
 pub use Rattle.mr_frame.specs.Kept.{look_of}
 pub use Rattle.mr_mem.specs.Memory.{Memory}
@@ -15,7 +16,6 @@ pub use Rattle.mr_plan.specs.Notes.{Notes, start_notes}
 pub use Rattle.mr_plan.specs.Runs.{after_bare, Config, foot_from, foot_in, has_rule, printed_by}
 unfoldable pub use Rattle.mr_plan.specs.Runs.{entry_fault, machine_step}
 pub use Rattle.mr_sched.specs.declared.schedule.Entry.{Entry}
-pub use Rattle.mr_start.specs.Steps.{Own, thread_step}
 pub use Rattle.mr_turn.specs.Turning.{own_of, picks_break, shared_in, turn_by}
 unfoldable pub use Rattle.mr_turn.specs.Turning.{planned, turned}
 pub use Rattle.mr_step.specs.Advance.{ActAnswer, Advances, BeginsAct, IsDue, Stays}

@@ -1,11 +1,11 @@
 -- What a start keeps.
 use Rattle.mr_step.proofs.Common.{◌≡◌, ℕ, sym, ap, ◌∙◌, subst, List, length, None, Program, AreWithin, Config, Look, Own, IsSound}
 use Rattle.mr_typing.specs.Walk.{WellFormed}
-use Rattle.mr_start.specs.declared.beginning.Start.{Start}
-use Rattle.mr_start.specs.Begin.{IsStart}
-use Rattle.mr_start.specs.Start.{start_fault}
-use Rattle.mr_start.proofs.StartLimits.{start_within}
-use Rattle.mr_start.proofs.StartSound.{start_look, start_sound}
+use Rattle.mr_turn.specs.Began.{Start}
+use Rattle.mr_exchange.specs.StartBegin.{IsStart}
+use Rattle.mr_exchange.specs.StartStart.{start_fault}
+use Rattle.mr_exchange.proofs.StartStartLimits.{start_within}
+use Rattle.mr_exchange.proofs.StartStartSound.{start_look, start_sound}
 use Rattle.mr_step.specs.First.{first_config}
 
 module _ (p : Program) (well : WellFormed p) (picks : List ℕ) (legal : start_fault p picks ≡ None) (s : Start) (h : IsStart p picks s) where

@@ -3,7 +3,7 @@ use Rattle.mr_step.proofs.Common.{◌≡◌, ◌<◌, ℕ, arith, refl, sym, ap,
 use Rattle.std.proofs.lemmas.List.Elements.{All-head}
 use Rattle.mr_event.specs.FootOk.{IsFootOk}
 use Rattle.mr_event.specs.Order.{no_step}
-use Rattle.mr_start.specs.Runs.{program_fault, program_step}
+use Rattle.mr_exchange.specs.StartRuns.{program_fault, program_step}
 use Rattle.mr_step.specs.declared.fault.Turn.{Turn}
 use Rattle.mr_step.specs.Answers.{FailsToHand, Hands, RunsOut, Steps, completed, stopped, turn_of}
 use Rattle.mr_step.proofs.EntryLaws.{Left, left_by, legal_runs, made, none, printed_behind}

@@ -6,8 +6,8 @@ use Rattle.mr_mem.specs.Memory.{Allocation}
 use Rattle.mr_frame.specs.Fits.{FitsStack, IsLook}
 use Rattle.mr_frame.specs.Kept.{stack_of}
 use Rattle.mr_frame.specs.Standing.{IsUncounted}
-use Rattle.mr_start.specs.SoundState.{IsCounted, SoundState}
-use Rattle.mr_start.proofs.RunSound.{entry_sound}
+use Rattle.mr_exchange.specs.StartSoundState.{IsCounted, SoundState}
+use Rattle.mr_exchange.proofs.StartRunSound.{entry_sound}
 use Rattle.mr_event.specs.FootOk.{IsFootOk}
 use Rattle.mr_exchange.proofs.FootLimits.{entry_ok}
 use Rattle.mr_step.specs.declared.setting.Setting.{Setting}

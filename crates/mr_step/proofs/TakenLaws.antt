@@ -11,7 +11,7 @@ use Rattle.mr_base.specs.Script.{Outcome, Refused}
 use Rattle.mr_sync.specs.Tables.{Tables}
 use Rattle.mr_plan.specs.Queries.{Shared}
 use Rattle.mr_frame.specs.declared.flow.Flow.{Flow}
-use Rattle.mr_start.specs.Steps.{Turn}
+use Rattle.mr_exchange.specs.StartSteps.{Turn}
 use Rattle.mr_turn.specs.declared.deed.Deed.{Deed}
 use Rattle.mr_turn.specs.declared.deed.TurnFault.{TurnFault}
 use Rattle.mr_step.specs.Advance.{Acts, AdvanceAnswer, Keeps, WithoutAnswer, act_fault, act_outcome, world_at}

@@ -16,7 +16,7 @@ use Rattle.mr_frame.specs.Fits.{FitsStack}
 use Rattle.mr_frame.specs.Frames.{Look}
 use Rattle.mr_frame.specs.Kept.{IsReady, stack_of}
 use Rattle.mr_frame.specs.Standing.{IsUncounted}
-use Rattle.mr_start.specs.Steps.{Own, Turn, thread_step}
+use Rattle.mr_exchange.specs.StartSteps.{Own, Turn, thread_step}
 use Rattle.mr_turn.specs.declared.deed.Deed.{Deed}
 use Rattle.mr_turn.specs.declared.deed.TurnFault.{TurnFault}
 use Rattle.mr_turn.specs.declared.deed.TurnFault.TheVariants as turn

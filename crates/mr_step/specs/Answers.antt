@@ -9,9 +9,9 @@ use Rattle.mr_event.specs.Footprint.{Footprint}
 use Rattle.mr_sched.specs.declared.schedule.Entry.{Entry}
 use Rattle.mr_plan.specs.Legal.{Fault}
 use Rattle.mr_plan.specs.Runs.{Config, foot_from, has_rule}
-use Rattle.mr_start.specs.Steps.{Own, thread_step}
-use Rattle.mr_start.specs.Runs.{program_fault, program_step}
-use Rattle.mr_start.specs.Start.{start_fault, start_config, look_of}
+use Rattle.mr_exchange.specs.StartSteps.{Own, thread_step}
+use Rattle.mr_exchange.specs.StartRuns.{program_fault, program_step}
+use Rattle.mr_exchange.specs.StartStart.{start_fault, start_config, look_of}
 use Rattle.mr_step.specs.declared.fault.StepFault.{StepFault}
 use Rattle.mr_step.specs.declared.fault.StepFault.TheVariants as answer
 use Rattle.mr_step.specs.declared.fault.Turn.{Turn}

@@ -7,9 +7,9 @@ use Rattle.mr_plan.specs.Machine.{thread_of}
 use Rattle.mr_plan.specs.Runs.{Config}
 use Rattle.mr_frame.specs.declared.stack.Stack.{Stack as KeptStack}
 use Rattle.mr_frame.specs.Kept.{stack_of}
-use Rattle.mr_start.specs.Steps.{Own}
-use Rattle.mr_start.specs.declared.beginning.StartFault.{StartFault}
-use Rattle.mr_start.specs.declared.beginning.StartFault.TheVariants as refused
+use Rattle.mr_exchange.specs.StartSteps.{Own}
+use Rattle.mr_turn.specs.Began.{StartFault}
+use Rattle.mr_turn.specs.Began as refused
 use Rattle.mr_step.specs.declared.fault.StepFault.{StepFault}
 use Rattle.mr_step.specs.declared.fault.StepFault.TheVariants as answer
 

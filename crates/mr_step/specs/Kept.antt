@@ -11,8 +11,8 @@ use Rattle.mr_frame.specs.Frames.{Look, Stack}
 use Rattle.mr_frame.specs.declared.stack.At.{At}
 use Rattle.mr_frame.specs.Kept.{frame_of, stack_of}
 use Rattle.mr_frame.specs.Tops.{at_of}
-use Rattle.mr_start.specs.SoundState.{SoundState}
-use Rattle.mr_start.specs.Steps.{Own}
+use Rattle.mr_exchange.specs.StartSoundState.{SoundState}
+use Rattle.mr_exchange.specs.StartSteps.{Own}
 use Rattle.mr_step.specs.declared.machine.Machine.TheInside.{Inside}
 use Rattle.mr_step.specs.declared.progress.Line.{Line}
 use Rattle.mr_step.specs.declared.progress.Progress.{Progress}

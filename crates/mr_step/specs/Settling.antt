@@ -15,7 +15,7 @@ use Rattle.mr_frame.specs.declared.flow.Flow.{Flow}
 use Rattle.mr_frame.specs.declared.flow.Flow.TheVariants as flow
 use Rattle.mr_frame.specs.declared.stack.Stack.{Stack as KeptStack}
 use Rattle.mr_frame.specs.Frames.{Look}
-use Rattle.mr_start.specs.Steps.{Own, thread_step}
+use Rattle.mr_exchange.specs.StartSteps.{Own, thread_step}
 use Rattle.mr_turn.specs.declared.deed.Deed.{Deed}
 use Rattle.mr_turn.specs.Turning.{is_end, own_of, printed_lines, shared_in, turn_by}
 use Rattle.mr_step.specs.declared.progress.Progress.{Progress}

@@ -10,7 +10,7 @@ use Rattle.mr_frame.specs.declared.stack.At.{At}
 use Rattle.mr_frame.specs.Tops.{top_at}
 use Rattle.mr_plan.specs.Machine.{Thread}
 use Rattle.mr_plan.specs.Runs.{Config, Printed, printed_by}
-use Rattle.mr_start.specs.Steps.{Own}
+use Rattle.mr_exchange.specs.StartSteps.{Own}
 
 -- what its steps look up, whether it failed for want of memory, and where it stands
 pub record Standing : Type 0 where

@@ -1,7 +1,7 @@
 //! What the next step of a thread asks for.
 ghost use Rattle.mr_frame.specs.Kept.{look_of};
 ghost use Rattle.mr_plan.specs.Machine.{needs};
-ghost use Rattle.mr_start.specs.Steps.{thread_step};
+ghost use Rattle.mr_exchange.specs.StartSteps.{thread_step};
 ghost use Rattle.mr_turn.specs.Asking.{AsksAnswer};
 ghost use Rattle.mr_step.specs.Advance.{CanAsk};
 ghost use Rattle.mr_step.specs.Kept.{state_of};

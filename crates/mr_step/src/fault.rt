@@ -5,7 +5,7 @@ ghost use Rattle.mr_step.specs.First.{unmade_by};
 
 use mr_base::{AllocId, Verdict};
 use mr_sched::ScheduleRule;
-use mr_start::{PickFailure, StartFault};
+use mr_turn::{PickFailure, StartFault};
 use std::alloc::{AllocError, AllocFailed};
 
 /// Why a start or a step was refused.

@@ -32,4 +32,4 @@ mod settle;
 pub use fault::{StepFault, Turn};
 pub use machine::Machine;
 pub use mr_exchange::{counts, limits, swap};
-pub use mr_start::{feet_counted, legal_schedules, never_ill_formed, one_at_most, whole_start};
+pub use mr_turn::{feet_counted, legal_schedules, never_ill_formed, one_at_most, whole_start};

@@ -12,7 +12,7 @@ use mr_event::Footprint;
 use mr_frame::At;
 use mr_runs::View;
 use mr_sched::{Ask, Entry};
-use mr_start::{Start, begin};
+use mr_turn::{Start, begin};
 use mr_typing::Checked;
 use std::alloc::{AllocError, Global};
 use std::marker::Model;
@@ -61,10 +61,10 @@ impl<'p> Machine<'p> {
     ghost use Rattle.mr_sync.specs.Tables.{IsEnabled, holder_of, is_enabled, waits};
     ghost use Rattle.mr_plan.specs.Machine.{State, needs};
     ghost use Rattle.mr_plan.specs.Queries.{tables_of};
-    ghost use Rattle.mr_start.specs.Steps.{Own, thread_step};
+    ghost use Rattle.mr_exchange.specs.StartSteps.{Own, thread_step};
     ghost use Rattle.mr_turn.specs.Asking.{AsksAnswer};
-    ghost use Rattle.mr_start.specs.Begin.{IsStart};
-    ghost use Rattle.mr_start.specs.Start.{start_fault};
+    ghost use Rattle.mr_exchange.specs.StartBegin.{IsStart};
+    ghost use Rattle.mr_exchange.specs.StartStart.{start_fault};
     ghost use Rattle.mr_step.specs.Answers.{GoAnswer, HandAnswer, StartAnswer, StepAnswer, standing};
     ghost use Rattle.mr_step.specs.Standing.{bytes_from, place_in, seen_line};
 

@@ -1,7 +1,7 @@
 -- A file of places, and two races at one pair of places.
 use Rattle.mr_traced.proofs.Common.{◌≡◌, ℕ, List, [], ◌∷◌, ◌++◌, Ok, refl, codes, None, Some, Pair, group_at, named_of, Seen}
 use Rattle.std.proofs.Common.{Err}
-use Rattle.mr_ast.specs.Words.{is_number}
+use Rattle.mr_words.specs.AstWords.{is_number}
 use Rattle.mr_traced.specs.declared.form.Site.{Site}
 use Rattle.mr_traced.specs.Names.{site_text}
 use Rattle.mr_traced.specs.declared.refusal.PlacesFault.TheVariants as fault

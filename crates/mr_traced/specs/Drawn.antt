@@ -5,7 +5,7 @@ use Rattle.mr_base.specs.declared.thread.Event.{Event}
 use Rattle.mr_base.specs.declared.thread.Event.TheVariants as event
 use Rattle.mr_event.specs.Footprint.{Footprint}
 use Rattle.mr_event.specs.Order.{thread_at}
-use Rattle.mr_report.specs.Report.{count_line}
+use Rattle.mr_listing.specs.ReportReport.{count_line}
 use Rattle.mr_listing.specs.Accesses.{access_word, bytes_text}
 use Rattle.mr_picture.specs.declared.scene.Drawn.{Drawn}
 use Rattle.mr_picture.specs.declared.span.Span.{Span}

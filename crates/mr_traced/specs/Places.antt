@@ -3,7 +3,7 @@ use Rattle.std.specs.Prelude.{ℕ, ◌+◌, ◌^◌, Bool, false, not, ◌==◌,
 use Rattle.std.specs.Prelude.{drop}
 use Rattle.std.specs.Prelude.{bytes_eq, codes, flat_map, map, position, Option, None, Some, Result, Ok, Err}
 use Rattle.std.specs.List.{slice_split}
-use Rattle.mr_ast.specs.Words.{is_number, value_of}
+use Rattle.mr_words.specs.AstWords.{is_number, value_of}
 use Rattle.mr_traced.specs.declared.form.Places.{Places}
 use Rattle.mr_traced.specs.declared.form.Site.{Site}
 use Rattle.mr_traced.specs.declared.refusal.PlacesFault.{PlacesFault}

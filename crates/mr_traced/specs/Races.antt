@@ -4,7 +4,7 @@ use Rattle.std.specs.Prelude.{take}
 use Rattle.std.specs.Prelude.{Option, None, Some, slice_get}
 use Rattle.mr_base.specs.declared.access.Access.{Access}
 use Rattle.mr_event.specs.Footprint.{Footprint}
-use Rattle.mr_report.specs.Report.{count_line}
+use Rattle.mr_listing.specs.ReportReport.{count_line}
 use Rattle.mr_listing.specs.declared.pairs.Group.{Group}
 use Rattle.mr_listing.specs.Races.{by_count, times_text}
 use Rattle.mr_traced.specs.Groups.{AreGroups, groups}

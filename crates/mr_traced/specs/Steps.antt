@@ -6,7 +6,7 @@ use Rattle.mr_base.specs.declared.access.Access.{Access}
 use Rattle.mr_base.specs.declared.thread.Event.{Event}
 use Rattle.mr_base.specs.declared.thread.Event.TheVariants as event
 use Rattle.mr_event.specs.Footprint.{Footprint}
-use Rattle.mr_report.specs.Report.{count_line}
+use Rattle.mr_listing.specs.ReportReport.{count_line}
 use Rattle.mr_listing.specs.Accesses.{access_word, bytes_text}
 use Rattle.mr_listing.specs.Events.{end_text, note_line, woken_line}
 use Rattle.mr_listing.specs.Partners.{partner_line, partners_at}

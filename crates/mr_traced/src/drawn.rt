@@ -1,6 +1,6 @@
 //! The picture of a trace.
 ghost use Rattle.std.specs.Prelude.{◌≡◌, ◌<◌, ◌≤◌, ◌^◌, ◌++◌, All, IfOk, OnOk, flat_map, length, option_copied, slice_get};
-ghost use Rattle.mr_report.specs.Report.{count_line};
+ghost use Rattle.mr_listing.specs.ReportReport.{count_line};
 ghost use Rattle.mr_traced.specs.Drawn.{access_deed, drawn_step, drawn_steps, event_deed, foot_deeds, picture_text, span_text};
 ghost use Rattle.mr_traced.specs.Drawn.{started_at, started_by};
 ghost use Rattle.mr_traced.specs.Names.{spot_text};

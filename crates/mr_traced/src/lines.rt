@@ -1,6 +1,6 @@
 //! The lines of a step.
 ghost use Rattle.std.specs.Prelude.{◌≡◌, ◌++◌, OnOk, codes, flat_map, option_copied, slice_get};
-ghost use Rattle.mr_report.specs.Report.{count_line};
+ghost use Rattle.mr_listing.specs.ReportReport.{count_line};
 ghost use Rattle.mr_traced.specs.Seen.{seen};
 ghost use Rattle.mr_traced.specs.Steps.{access_line, event_text, foot_text, head_line, thread_text};
 

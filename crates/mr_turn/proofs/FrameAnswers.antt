@@ -24,13 +24,13 @@ deed_is_turn (Err (answer.Broken f)) fault o last W same e h = absurd h
 deed_is_turn (Err (answer.Undefined r)) fault o last W same e h = (e, h)
 deed_is_turn (Err answer.Memory) fault o last W same e h = tt
 
--- what else follows where an entry is refused
-pub turn_same : (r : Result Deed TurnFault) (fault : Option Fault) (o : Outcome Turn (Shared × Notes)) (last : Option Reached) (W : Deed → Type 0) (A B : Type 0) → (A → B)
-    → TurnAnswer r fault o last W A → TurnAnswer r fault o last W B
-turn_same (Ok d) fault o last W A B f h = h
-turn_same (Err (answer.Broken e)) fault o last W A B f h = (h.0, f h.1)
-turn_same (Err (answer.Undefined r)) fault o last W A B f h = h
-turn_same (Err answer.Memory) fault o last W A B f h = tt
+-- what else follows of a deed, and where an entry is refused
+pub turn_as : (r : Result Deed TurnFault) (fault : Option Fault) (o : Outcome Turn (Shared × Notes)) (last : Option Reached) (W V : Deed → Type 0) (A B : Type 0)
+    → ((d : Deed) → W d → V d) → (A → B) → TurnAnswer r fault o last W A → TurnAnswer r fault o last V B
+turn_as (Ok d) fault o last W V A B g f h = (h.0, g d h.1)
+turn_as (Err (answer.Broken e)) fault o last W V A B g f h = (h.0, f h.1)
+turn_as (Err (answer.Undefined r)) fault o last W V A B g f h = h
+turn_as (Err answer.Memory) fault o last W V A B g f h = tt
 
 -- picks that break a rule
 pub judged_broken : (f : TurnFault) (fault : Option Fault) (o : Outcome Turn (Shared × Notes)) (last : Option Reached) (W : Deed → Type 0) (same : Type 0)

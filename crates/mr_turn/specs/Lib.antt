@@ -1,4 +1,5 @@
 pub mod Asking
+pub mod Began
 pub mod Doing
 pub mod Turning
 pub use Rattle.mr_intr.specs.Operations as IntrOperations

@@ -36,7 +36,12 @@ pub fn do_turn(
     match stack.arguments(alloc, look, &s.memory, &mut s.notes) {
         Err(Fault::Memory) => Err(TurnFault::Memory),
         Err(Fault::Undefined(reason)) => Err(stopped(reason, picks)),
-        Ok(call) => act(alloc, look, stack, s, sync, op, &call, picks),
+        Ok(call) => {
+            let answer = act(alloc, look, stack, s, sync, op, &call, picks);
+            s.notes.spare_values = call.args;
+            s.notes.spare_types = call.arg_types;
+            answer
+        }
     }
 }
 
@@ -161,7 +166,7 @@ fn carry_out(
     let mut text = Vec::new(alloc);
     let (args, types) = (call.args.as_slice(), call.arg_types.as_slice());
     let place = call.result_type.as_ref();
-    match operate(alloc, op, args, types, place, s, sync, &mut text, picks) {
+    match operate(op, args, types, place, s, sync, &mut text, picks) {
         Err(fault) => Err(TurnFault::from(fault)),
         Ok(effect) => end_told(alloc, look, stack, s, call, op, effect, text),
     }

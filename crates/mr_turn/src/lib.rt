@@ -6,6 +6,9 @@
 //! break, and then nothing changed; or what the step comes to, with what it leaves and notes. Want of memory apart there is no other answer.
 //! [`asks`] tells what picks the next step asks for, and which limit it would pass, without taking it (`specs/Asking.antt`): exactly what the
 //! step needs by its plan.
+//!
+//! It hands on what its callers need of `mr_start`: the start of a run ([`begin`], [`Start`], [`StartFault`], and [`PickFailure`], which a
+//! turn tells as well), and the laws of the definitions; `specs/Began.antt` names these types for contracts.
 #![tactic(auto)]
 
 mod asking;
@@ -18,4 +21,8 @@ mod turning;
 
 pub use asking::asks;
 pub use deed::{Deed, TurnFault};
+pub use mr_start::{
+    PickFailure, Start, StartFault, begin, feet_counted, legal_schedules, never_ill_formed,
+    one_at_most, whole_start,
+};
 pub use turning::turn;

@@ -4,7 +4,7 @@ pub use Rattle.std.proofs.lemmas.Bool.{and_parts}
 pub use Rattle.std.proofs.lemmas.Bool.Decides.{nat_tests, same_from_decides}
 pub use Rattle.std.specs.List.{flat_map, list_all}
 pub use Rattle.std.specs.Option.{option_map}
-pub use Rattle.mr_ast.proofs.OrderHeads.{type_made}
+pub use Rattle.mr_ast.proofs.TypeInduction.{type_made}
 pub use Rattle.mr_ast.specs.Integers.{int_size, is_fitting}
 pub use Rattle.mr_ast.specs.Shaped.{is_block, is_optional_block, is_optional_place, is_shaped_stmt, is_shaped_target, is_shaped_term, named_in}
 pub use Rattle.mr_ast.specs.ShapedTypes.{fits_u64, is_shaped_num}

@@ -4,7 +4,7 @@ use Rattle.std.specs.Cmp.Derive.{both_true}
 use Rattle.std.proofs.lemmas.Bool.{false≢true}
 use Rattle.std.proofs.lemmas.Option.{none-some, same_Some}
 use Rattle.mr_typing.specs.Known.{are_overflow_fields, is_overflow_layer}
-use Rattle.mr_base.proofs.Comparisons.{eq_from, eq_itself}
+use Rattle.mr_layout.proofs.BaseComparisons.{eq_from, eq_itself}
 use Rattle.mr_ast.specs.declared.types.Ty.TheVariants as ty
 use Rattle.mr_typing.proofs.KindLaws.{same_type_sym, same_with_bool, same_with_fn_ptr, same_with_int, same_with_raw}
 use Rattle.mr_typing.proofs.SameTypeLaws.{same_type_answer, same_type_equal, same_type_itself}

@@ -11,11 +11,11 @@ use Rattle.mr_ast.specs.declared.types.Ty.TheOpen.{Variant-F}
 use Rattle.mr_ast.specs.declared.types.Ty.TheFolds.{map-Ty, map-Variant, fold-Variant, fold-roll-Ty, fold-roll-Variant, ind-Ty}
 use Rattle.mr_ast.specs.declared.types.Variant.{roll-Variant, out-Variant}
 use Rattle.mr_ast.specs.Integers.{is_signed}
-use Rattle.mr_ast.proofs.OrderHeads.{tree_made}
+use Rattle.mr_ast.proofs.TreeInduction.{tree_made}
 use Rattle.mr_layout.specs.EnumRules.{same_num}
 use Rattle.mr_layout.proofs.TreeOk.{same_num_equal}
 use Rattle.mr_typing.specs.SameTypes.{same_bool, same_cases, same_chunks, same_fields, same_int, same_layer, same_tags, same_tree, same_tree_layer, same_variant_layer, same_variants}
-use Rattle.mr_base.proofs.Comparisons.{eq_from, eq_itself}
+use Rattle.mr_layout.proofs.BaseComparisons.{eq_from, eq_itself}
 
 -- ---- numbers and lists
 

@@ -7,12 +7,12 @@ use Rattle.std.specs.Prelude.{None, Some, slice_get}
 use Rattle.std.specs.List.{range_with_len}
 use Rattle.mr_ast.specs.declared.program.Program.{Program}
 use Rattle.mr_event.specs.Footprint.{Footprint}
-use Rattle.mr_frame.specs.Frames.{Look}
+use Rattle.mr_step.specs.FrameFrames.{Look}
 use Rattle.mr_labels.specs.declared.rows.Allocation.{Allocation}
 use Rattle.mr_labels.proofs.Growing.{pushed_next}
 use Rattle.mr_listing.specs.declared.held.StepValues.{StepValues}
-use Rattle.mr_plan.specs.Machine.{Language}
-use Rattle.mr_plan.specs.Runs.{AreLegal, Config, after, entry_fault, machine_step}
+use Rattle.mr_step.specs.PlanMachine.{Language}
+use Rattle.mr_step.specs.PlanRuns.{AreLegal, Config, after, entry_fault, machine_step}
 use Rattle.mr_replay.specs.declared.telling.Between.{Between}
 use Rattle.mr_sched.specs.declared.schedule.Entry.{Entry}
 use Rattle.mr_sched.specs.declared.schedule.Schedule.{Schedule}

@@ -2,7 +2,7 @@
 use Rattle.std.proofs.Common.{◌≡◌, ℕ, List, Option, Some, None, refl}
 use Rattle.mr_base.specs.declared.byte.AbstractByte.{AbstractByte}
 use Rattle.mr_base.specs.declared.byte.Pointer.{Pointer}
-use Rattle.mr_plan.specs.Machine.{State}
+use Rattle.mr_step.specs.PlanMachine.{State}
 use Rattle.mr_step.specs.Standing.{bytes_from}
 use Rattle.mr_step.specs.ThreadSteps.{Own}
 use Rattle.mr_values.specs.Values.{bytes_in}

@@ -6,14 +6,14 @@ use Rattle.mr_base.specs.declared.access.Access.{Access}
 use Rattle.mr_base.specs.declared.byte.AbstractByte.{AbstractByte}
 use Rattle.mr_base.specs.declared.byte.Pointer.{Pointer}
 use Rattle.mr_event.specs.Footprint.{Footprint}
-use Rattle.mr_frame.specs.Frames.{Look}
+use Rattle.mr_step.specs.FrameFrames.{Look}
 use Rattle.mr_labels.specs.declared.rows.Allocation.{Allocation}
 use Rattle.mr_labels.specs.Table.{found_at}
 use Rattle.mr_listing.specs.declared.held.Held.{Held}
 use Rattle.mr_listing.specs.declared.held.Held.TheVariants as held
 use Rattle.mr_listing.specs.declared.held.StepValues.{StepValues}
-use Rattle.mr_plan.specs.Machine.{State}
-use Rattle.mr_plan.specs.Runs.{Config, after}
+use Rattle.mr_step.specs.PlanMachine.{State}
+use Rattle.mr_step.specs.PlanRuns.{Config, after}
 use Rattle.mr_replay.specs.declared.telling.Between.{Between}
 use Rattle.mr_replay.specs.Told.{is_between}
 use Rattle.mr_sched.specs.declared.schedule.Entry.{Entry}

@@ -1,7 +1,7 @@
 //! The second run of a program, which tells values.
 ghost use Rattle.std.specs.Prelude.{◌≡◌, ◌+◌, ◌<◌, ◌≤◌, ◌^◌, IfOk, None, OnOk, false, length, map, option_copied};
 ghost use Rattle.std.specs.List.{range_with_len};
-ghost use Rattle.mr_plan.specs.Runs.{AreLegal};
+ghost use Rattle.mr_step.specs.PlanRuns.{AreLegal};
 ghost use Rattle.mr_replay.specs.Told.{is_between};
 ghost use Rattle.mr_run.specs.Runs.{IsMade};
 ghost use Rattle.mr_step.specs.Answers.{standing};

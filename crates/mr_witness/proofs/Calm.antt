@@ -2,7 +2,7 @@
 use Rattle.mr_witness.proofs.Common.{◌≡◌, refl, sym, ◌∙◌, ap, Bool, true, false, Option, Some, None, Result, Ok, Err, both_ways, Reason, DataRace, Ask, Broken, Done, IllFormed, Outcome, Refused, Undefined, Went, on, run, ◌>>=◌, MemoryScript, reading_part, ReadScript, answered, StepScript, memory_part}
 use Rattle.mr_base.specs.declared.reached.Reached.{Reached}
 use Rattle.mr_base.specs.Script.{Script}
-use Rattle.mr_mem.proofs.SpeakingLaws.{SpeakResult, Speaks}
+use Rattle.mr_eval.proofs.MemSpeakingLaws.{SpeakResult, Speaks}
 
 -- whether a reason is the data race
 abbrev pub is_race : Reason → Bool

@@ -33,6 +33,7 @@ pub use Rattle.mr_exchange.proofs.Law.{law_of, thread_noted}
 pub use Rattle.mr_exchange.proofs.Lists.{Ahead, Ahead-filter, Ahead-places, Each, Each-at, Each-filter, Each-places, Each-weaker, filter-agree, filter-kept, filter-left_out, range_with_len-parts}
 pub use Rattle.mr_exchange.proofs.Sane.{sound_is_sane}
 pub use Rattle.mr_exchange.proofs.StartStartSound.{start_look, start_sound}
+pub use Rattle.mr_exchange.specs.PlanQueries.{answer, memory_part, OfMemory, Shared, StepScript}
 pub use Rattle.mr_exchange.specs.StartRuns.{Legal}
 unfoldable pub use Rattle.mr_exchange.specs.StartRuns.{run_of, steps_of}
 unfoldable pub use Rattle.mr_exchange.specs.StartStart.{look_of, start_config}
@@ -42,7 +43,6 @@ pub use Rattle.mr_exchange.specs.Witness.{entry_at, IsWitness, schedule_at}
 unfoldable pub use Rattle.mr_exchange.specs.Witness.{kept_schedule}
 pub use Rattle.mr_sched.specs.declared.schedule.Entry.{Entry}
 pub use Rattle.mr_sched.specs.declared.schedule.Schedule.{Schedule}
-pub use Rattle.mr_start.specs.PlanQueries.{answer, memory_part, OfMemory, Shared, StepScript}
 pub use Rattle.mr_value.specs.Numbers.{number_of}
 pub use Rattle.mr_value.specs.declared.val.Val.{out-Val, Val}
 pub use Rattle.mr_witness.specs.Board.{IsBoard, IsNextOf, left_of}
@@ -57,6 +57,6 @@ unfoldable pub use Rattle.mr_witness.specs.PlanRuns.{entry_fault, machine_step}
 pub use Rattle.mr_witness.specs.Short.{short_schedule}
 pub use Rattle.mr_witness.specs.Shuffled.{above_threads, drawn_step, earliest_of, free_step, is_free, is_ready, placed_in, ready_threads, shuffled, step_or_first, without}
 unfoldable pub use Rattle.mr_witness.specs.Shuffled.{shuffled_order}
+pub use Rattle.mr_witness.specs.StartSteps.{Own, thread_step}
 pub use Rattle.mr_witness.specs.ThreadSoundState.{SoundState}
-pub use Rattle.mr_witness.specs.ThreadSteps.{Own, thread_step}
 pub use Rattle.mr_witness.specs.TypingWalk.{WellFormed}

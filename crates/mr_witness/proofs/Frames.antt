@@ -16,15 +16,15 @@ use Rattle.mr_value.specs.Shape.{has_shape}
 use Rattle.mr_eval.specs.TypingTypes.{type_of_place, type_of_value}
 use Rattle.mr_eval.specs.TypingWalk.{begins_regular}
 use Rattle.mr_eval.specs.Evaluation.{Surround, place_script, stored, value_script, values_script}
-use Rattle.mr_start.specs.PlanMachine.{CreatesNothing, Plan}
-use Rattle.mr_start.specs.FrameCalls.{Targets, all_there, allocate_each, behind_first, both_there, call, call_function, call_number, call_plan, callee_of, calling, enter, enter_at, enter_with, free_each, give_result, give_to, given_types, is_main, kept_types, leave, local_type, resume, return_from, return_value, same_types, storage_asks, store_each, targets_of, unwind, unwind_in, unwind_to}
-use Rattle.mr_start.specs.FrameChanges.{Change, change, free_storage, store, tags_in, validate_at, with_type, write, write_found, write_tags}
-use Rattle.mr_start.specs.FrameFrames.{Frame, GoesOn, Look, Onward, Stack, scene_in}
-use Rattle.mr_start.specs.FrameOperations.{DueDo, Operands, finish, operands, operands_in, result_place, result_type, store_result}
-use Rattle.mr_start.specs.FrameSites.{AtDo, AtStatement, AtTerminator, Due, Site, due_of, site_of}
-use Rattle.mr_start.specs.FrameSteps.{dead, frame_plan, live, live_at, next, plain, plan_at, plan_due, statement, terminator}
-use Rattle.mr_start.specs.FrameSwitches.{number_as, switched}
-use Rattle.mr_start.proofs.FrameStatements.{by_kind, changes}
+use Rattle.mr_exchange.specs.PlanMachine.{CreatesNothing, Plan}
+use Rattle.mr_exchange.specs.StartFrameCalls.{Targets, all_there, allocate_each, behind_first, both_there, call, call_function, call_number, call_plan, callee_of, calling, enter, enter_at, enter_with, free_each, give_result, give_to, given_types, is_main, kept_types, leave, local_type, resume, return_from, return_value, same_types, storage_asks, store_each, targets_of, unwind, unwind_in, unwind_to}
+use Rattle.mr_exchange.specs.StartFrameChanges.{Change, change, free_storage, store, tags_in, validate_at, with_type, write, write_found, write_tags}
+use Rattle.mr_exchange.specs.StartFrameFrames.{Frame, GoesOn, Look, Onward, Stack, scene_in}
+use Rattle.mr_exchange.specs.StartFrameOperations.{DueDo, Operands, finish, operands, operands_in, result_place, result_type, store_result}
+use Rattle.mr_exchange.specs.StartFrameSites.{AtDo, AtStatement, AtTerminator, Due, Site, due_of, site_of}
+use Rattle.mr_exchange.specs.StartFrameSteps.{dead, frame_plan, live, live_at, next, plain, plan_at, plan_due, statement, terminator}
+use Rattle.mr_exchange.specs.StartFrameSwitches.{number_as, switched}
+use Rattle.mr_exchange.proofs.StartFrameStatements.{by_kind, changes}
 use Rattle.mr_ast.specs.declared.program.Stmt.TheVariants as stmt
 use Rattle.mr_ast.specs.declared.program.Term.TheVariants as term
 use Rattle.mr_witness.proofs.Calm.{Anything, Calms, calms_then, reading_calms}

@@ -24,4 +24,6 @@ pub mod ShortChosen
 pub mod ShortWitness
 pub mod Shown
 pub mod Steps
-pub use Rattle.mr_start.proofs.PlanLegalLaws
+pub use Rattle.mr_exchange.proofs.First as ExchangeFirst
+pub use Rattle.mr_exchange.proofs.Lists as ExchangeLists
+pub use Rattle.mr_exchange.proofs.StartPlanLegalLaws as PlanLegalLaws

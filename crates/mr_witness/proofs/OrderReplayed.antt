@@ -1,6 +1,6 @@
 -- Moves as a run of entries, none of which the race check reports; and the same entry behind either of two such runs.
 use Rattle.mr_witness.proofs.Common.{◌≡◌, ℕ, ◌+◌, refl, sym, ◌∙◌, ap, subst, arith, List, [], ◌∷◌, ◌++◌, map, length, Bool, true, false, Option, Some, if◌then◌else◌, DataRace, Verdict, Footprint, step_at, Runs, Entry, WellFormed, Bare, Completed, IllFormedStep, State, Stops, bare, AreLegal, Config, Printed, after, after_bare, entry_fault, feet, foot_in, foot_of_bare, machine_step, races_with, verdict_after, IsLook, Look, SoundState, Own, thread_step, IsSane, SwapLaw, NotesThread, entry_at, StandAlike, prints_of}
-use Rattle.mr_sync.specs.Tables.{is_any_enabled}
+use Rattle.mr_exchange.specs.SyncTables.{is_any_enabled}
 use Rattle.mr_witness.specs.PlanQueries.{tables_of}
 use Rattle.mr_base.specs.declared.reason.Verdict.TheVariants as verdict
 use Rattle.mr_witness.proofs.Runs.{never_raced as never_raced_itself}

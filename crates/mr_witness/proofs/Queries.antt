@@ -6,15 +6,15 @@ use Rattle.mr_base.specs.declared.byte.Kind.{Kind}
 use Rattle.mr_base.specs.declared.reason.Reason.TheVariants.{DanglingReference, NotHolder}
 use Rattle.mr_base.specs.declared.thread.Event.{Event}
 use Rattle.mr_base.specs.declared.thread.Event.TheVariants.{Acquire, Join, Release}
-use Rattle.mr_mem.proofs.SpeakingLaws.{checked_speaks, freed_speaks, read_speaks, written_speaks}
-use Rattle.mr_mem.specs.Memory.{Memory, checked, freed, read, written}
-use Rattle.mr_sync.specs.Tables.{Tables, acquired, any_waits, awaiting, ended, holding, joined, over, released, trying}
+use Rattle.mr_eval.proofs.MemSpeakingLaws.{checked_speaks, freed_speaks, read_speaks, written_speaks}
+use Rattle.mr_eval.specs.MemMemory.{Memory, checked, freed, read, written}
+use Rattle.mr_exchange.specs.SyncTables.{Tables, acquired, any_waits, awaiting, ended, holding, joined, over, released, trying}
 use Rattle.mr_eval.specs.MemoryQueries.{Free, MemoryQuery, Modify, Reading, Write, changing, memory_answer, modifying, number_bytes, replacing}
 use Rattle.mr_eval.specs.Reads.{Read, ReadQuery, Refer, Seen, lending, named, reading}
 use Rattle.mr_eval.specs.Stores.{storing}
 use Rattle.mr_eval.specs.Tally.{Tally}
-use Rattle.mr_start.specs.PlanNotes.{Notes}
-use Rattle.mr_start.specs.PlanQueries.{Await, Finish, NewLock, Print, Query, Start, TryLock, Unlock, Waiting, blocked, ending, fits, giving, going, in_shared, note, tables_of, telling, with_tables, woke}
+use Rattle.mr_exchange.specs.PlanNotes.{Notes}
+use Rattle.mr_exchange.specs.PlanQueries.{Await, Finish, NewLock, Print, Query, Start, TryLock, Unlock, Waiting, blocked, ending, fits, giving, going, in_shared, note, tables_of, telling, with_tables, woke}
 use Rattle.mr_witness.proofs.Calm.{CalmOutcome, CalmResult, calm_answered, calm_on, spoken_result}
 
 -- ---- memory

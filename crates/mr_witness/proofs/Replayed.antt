@@ -4,7 +4,7 @@ use Rattle.std.specs.Prelude.{◌||◌}
 use Rattle.mr_base.specs.declared.thread.Status.{Status}
 use Rattle.mr_base.specs.declared.thread.Status.TheVariants.{Enabled, Ended, OnJoin, OnLock}
 use Rattle.mr_exchange.specs.Shown.{AreAdjacent, NextIs}
-use Rattle.mr_sync.specs.Tables.{is_any_enabled, is_enabled}
+use Rattle.mr_exchange.specs.SyncTables.{is_any_enabled, is_enabled}
 use Rattle.mr_witness.specs.PlanLegal.{status_fault}
 use Rattle.mr_witness.specs.PlanQueries.{tables_of}
 use Rattle.mr_base.specs.declared.reason.Verdict.TheVariants as verdict

@@ -1,11 +1,11 @@
 -- No step itself stops with a data race.
 use Rattle.mr_witness.proofs.Common.{◌≡◌, ◌≢◌, ℕ, refl, sym, subst, List, Bool, true, false, Option, Some, None, if◌then◌else◌, slice_get, Reason, DataRace, Verdict, Broken, Outcome, Refused, Went, run, ◌>>=◌, Shared, answer}
 use Rattle.mr_base.specs.declared.reached.Reached.{Reached}
-use Rattle.mr_mem.specs.Memory.{leaks}
-use Rattle.mr_start.specs.PlanMachine.{Aborts, Bare, Completed, Exits, Flow, Goes, IllFormedStep, State, Stops, Thread, acted, bare, settle, settled}
-use Rattle.mr_start.specs.PlanNotes.{Notes, start_notes}
-use Rattle.mr_start.specs.FrameFrames.{Look}
-use Rattle.mr_start.specs.Steps.{Own, own_step, thread_step}
+use Rattle.mr_eval.specs.MemMemory.{leaks}
+use Rattle.mr_exchange.specs.PlanMachine.{Aborts, Bare, Completed, Exits, Flow, Goes, IllFormedStep, State, Stops, Thread, acted, bare, settle, settled}
+use Rattle.mr_exchange.specs.PlanNotes.{Notes, start_notes}
+use Rattle.mr_exchange.specs.StartFrameFrames.{Look}
+use Rattle.mr_exchange.specs.StartSteps.{Own, own_step, thread_step}
 use Rattle.mr_base.specs.declared.reason.Verdict.TheVariants as verdict
 use Rattle.mr_witness.proofs.Calm.{Anything, CalmOutcome, IsCalm, calm_is_other, run_calm}
 use Rattle.mr_witness.proofs.Queries.{answer_calm}

@@ -5,15 +5,15 @@ use Rattle.mr_ast.specs.declared.program.Intrinsic.{Intrinsic}
 use Rattle.mr_base.specs.declared.byte.Kind.TheVariants.{Heap}
 use Rattle.mr_base.specs.declared.reason.Reason.TheVariants.{BadAlign, SizeTooLarge}
 use Rattle.mr_sched.specs.declared.schedule.Ask.TheVariants.{Address, Waiter}
-use Rattle.mr_start.specs.PlanMachine.{CreatesThread, Plan}
-use Rattle.mr_start.specs.FrameCalls.{callee_of, enter, kept_types, same_types, storage_asks}
-use Rattle.mr_start.specs.FrameFrames.{Aborts, EndsThread, Exits, GoesOn, Look, Onward}
-use Rattle.mr_start.specs.FrameOperations.{DueDo, Operands, finish, next_do, operands}
-use Rattle.mr_start.specs.FrameSteps.{frame_plan}
-use Rattle.mr_start.specs.IntrOperations.{Operation, acquire, allocate, allocating, assume, assuming, atomic_load, atomic_store, compare_exchange, create_lock, deallocate, exchanged, fetch, fetched, found, instant, is_power_of_two, join, loaded, modify, number_in, operation, print, release, releasing, truth_in, with_pick}
-use Rattle.mr_start.specs.IntrTexts.{text_of, texts_of}
-use Rattle.mr_start.proofs.IntrEachOperation.{of_operation}
-use Rattle.mr_start.specs.Steps.{Own, Turn, TurnPlan, do_step, finished, finishing, frame_step, in_step, last_payload, new_thread, onward, operated, own_step, spawn, spawn_function, spawn_number, spawn_types, start, step_due, thread_types}
+use Rattle.mr_exchange.specs.PlanMachine.{CreatesThread, Plan}
+use Rattle.mr_exchange.specs.StartFrameCalls.{callee_of, enter, kept_types, same_types, storage_asks}
+use Rattle.mr_exchange.specs.StartFrameFrames.{Aborts, EndsThread, Exits, GoesOn, Look, Onward}
+use Rattle.mr_exchange.specs.StartFrameOperations.{DueDo, Operands, finish, next_do, operands}
+use Rattle.mr_exchange.specs.StartFrameSteps.{frame_plan}
+use Rattle.mr_exchange.specs.StartIntrOperations.{Operation, acquire, allocate, allocating, assume, assuming, atomic_load, atomic_store, compare_exchange, create_lock, deallocate, exchanged, fetch, fetched, found, instant, is_power_of_two, join, loaded, modify, number_in, operation, print, release, releasing, truth_in, with_pick}
+use Rattle.mr_exchange.specs.StartIntrTexts.{text_of, texts_of}
+use Rattle.mr_exchange.proofs.StartIntrEachOperation.{of_operation}
+use Rattle.mr_exchange.specs.StartSteps.{Own, Turn, TurnPlan, do_step, finished, finishing, frame_step, in_step, last_payload, new_thread, onward, operated, own_step, spawn, spawn_function, spawn_number, spawn_types, start, step_due, thread_types}
 use Rattle.mr_eval.specs.TypingTypes.{integer_in}
 use Rattle.mr_ast.specs.declared.program.Intrinsic.TheVariants as intrinsic
 use Rattle.mr_value.specs.declared.val.Val.TheVariants as val

@@ -3,9 +3,9 @@ ghost use Rattle.std.specs.Prelude.{◌≢◌, ◌≡◌, ℕ, List, Option};
 ghost use Rattle.mr_base.specs.declared.reason.Reason.TheVariants.{DataRace};
 ghost use Rattle.mr_base.specs.declared.reason.Verdict.TheVariants.{Undefined};
 ghost use Rattle.mr_base.specs.declared.reached.Reached.{Reached};
-ghost use Rattle.mr_start.specs.PlanMachine.{State, Stops, bare};
-ghost use Rattle.mr_start.specs.FrameFrames.{Look};
-ghost use Rattle.mr_start.specs.Steps.{Own, thread_step};
+ghost use Rattle.mr_exchange.specs.PlanMachine.{State, Stops, bare};
+ghost use Rattle.mr_exchange.specs.StartFrameFrames.{Look};
+ghost use Rattle.mr_exchange.specs.StartSteps.{Own, thread_step};
 
 /// A law: no step itself stops with a data race.
 pub fn races_are_of_the_check()

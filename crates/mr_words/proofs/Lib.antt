@@ -6,3 +6,5 @@ pub mod PlaceLaws
 pub mod ScopeLaws
 pub mod TableLaws
 pub mod TextLaws
+pub use Rattle.mr_base.proofs.Comparisons as BaseComparisons
+pub use Rattle.mr_base.proofs.Options as BaseOptions

@@ -6,7 +6,7 @@ use Rattle.mr_base.specs.declared.thread.Event.{Event}
 use Rattle.mr_base.specs.declared.thread.Event.TheVariants.{Acquire, Join, Release}
 use Rattle.mr_base.specs.Script.{Ask, Broken, Done, IllFormed, Undefined, Went, run, ◌>>=◌}
 use Rattle.mr_base.proofs.ScriptSwaps.{goes_on}
-use Rattle.mr_sync.specs.Tables.{Tables, acquired, any_waits, ended, holding, joined, released}
+use Rattle.mr_step.specs.SyncTables.{Tables, acquired, any_waits, ended, holding, joined, released}
 use Rattle.mr_step.specs.EvalMemoryQueries.{MemoryScript, memory_answer, reading_part}
 use Rattle.mr_step.specs.EvalReads.{ReadScript}
 use Rattle.mr_step.specs.PlanNotes.{Notes}

@@ -1,6 +1,6 @@
 -- The numbers that a row without a broken limit writes can be written.
 use Rattle.mr_grammar.proofs.Common.{Bool, ◌≡◌, true, ◌&&◌, refl, List, [], ◌∷◌, ℕ, Option, Some, if◌then◌else◌, None, false, sym, ap, ◌∙◌, ◌^◌, not, ◌==◌, bytes_eq, AllByRecursion, list_all, option_map, nat_lt, nat_le, and_parts, lt_from, le_from, some_is, Word, Scope, IsRepeat, fits_u64, is_shaped_num, is_number, value_of, judged_number, u64_form, judged_u64, limit, num_form, judged_any, judged_positive, token, judged_repeat, limited_word}
-use Rattle.mr_base.proofs.Comparisons.{not_false}
+use Rattle.mr_words.proofs.BaseComparisons.{not_false}
 use Rattle.mr_grammar.proofs.Walk.EnsureLaws.{Parts, Ensures, ensures_token, unbroken, ensures_either, ensures_giving, ensures_behind, ensures_cases, ensures_empty}
 
 -- both tests pass

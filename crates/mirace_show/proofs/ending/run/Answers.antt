@@ -1,5 +1,5 @@
 use Rattle.std.specs.Prelude.{map, string_bytes}
-use Rattle.mr_input.proofs.EndingLaws.{ended_so}
+use Rattle.mr_show.proofs.InputEndingLaws.{ended_so}
 use Rattle.mirace_show.proofs.ending.run.Goals as goal
 
 pub returns : goal.returns

@@ -1,5 +1,5 @@
 use Rattle.mr_auto.proofs.Common.{◌≡◌, ◌+◌, ◌<◌, ◌^◌, sym, ◌∙◌, subst, Err, Ok, feet, thread_step, WellFormed, pieces, Standing, AreAddresses, BeginsDrawing, drawn_from_here}
-use Rattle.mr_step.specs.Answers.{StartAnswer, fault_of, standing}
+use Rattle.mr_run.specs.StepAnswers.{StartAnswer, fault_of, standing}
 use Rattle.mr_auto.proofs.Drawings.{are_addresses, begins_drawing, completed_none, drawn_is, drawn_run, drawn_steps, never_refused, picks_of, start_is, start_there}
 use Rattle.mr_auto.proofs.drawing.draw.Goals as goal
 

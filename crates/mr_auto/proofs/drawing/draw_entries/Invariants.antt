@@ -1,5 +1,5 @@
 use Rattle.mr_auto.proofs.Common.{List}
-use Rattle.mr_event.specs.Footprint.{Footprint}
+use Rattle.mr_run.specs.EventFootprint.{Footprint}
 use Rattle.mr_auto.proofs.DrawnSoFar.{DrawnSo}
 use Rattle.mr_auto.proofs.drawing.draw_entries.Given as goal
 

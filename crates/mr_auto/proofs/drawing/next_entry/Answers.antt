@@ -1,5 +1,5 @@
 use Rattle.mr_auto.proofs.Common.{◌≡◌, ap, sym, subst, ◌∙◌, true, false, length, Some, ◌==◌, slice_get, is_enabled, is_running, NextAnswer, Chooser, candidate, enabled_in, entry_from}
-use Rattle.mr_step.proofs.EntryLaws.{enabled_is}
+use Rattle.mr_run.proofs.StepEntryLaws.{enabled_is}
 use Rattle.mr_auto.proofs.Nexts.{drawn_is, next_by, weaker}
 use Rattle.mr_auto.proofs.Picks.{candidate_passes}
 use Rattle.mr_auto.proofs.drawing.next_entry.Goals as goal

@@ -7,16 +7,16 @@ hinted-hint-requires-clause-clocks c =
     clocks_same c.args.run.now c.args.j c.args.clocks.now.items c.as_slice.result.now c.args.numbers.now.items c.as_slice-2.result.now
     c.as_slice.ensures.value c.as_slice-2.ensures.value c.requires.clocks
 
-pub is_settled-is_settled-requires-clause-clocks : goal.is_settled-is_settled-requires-clause-clocks
-is_settled-is_settled-requires-clause-clocks c =
+pub standing_of-standing-requires-clause-clocks : goal.standing_of-standing-requires-clause-clocks
+standing_of-standing-requires-clause-clocks c =
     clocks_same c.args.run.now c.args.j c.args.clocks.now.items c.as_slice-4.result.now c.args.numbers.now.items c.as_slice-5.result.now
     c.as_slice-4.ensures.value c.as_slice-5.ensures.value c.requires.clocks
 
-pub is_settled-is_settled-requires-clause-rows : goal.is_settled-is_settled-requires-clause-rows
-is_settled-is_settled-requires-clause-rows c =
+pub standing_of-standing-requires-clause-rows : goal.standing_of-standing-requires-clause-rows
+standing_of-standing-requires-clause-rows c =
     rows_same c.args.run.now c.args.j c.args.rows.now.items c.as_slice-6.result.now c.args.links.now.items c.as_slice-7.result.now
     c.as_slice-6.ensures.value c.as_slice-7.ensures.value c.requires.rows
 
-pub is_settled-is_settled-requires-clause-found : goal.is_settled-is_settled-requires-clause-found
-is_settled-is_settled-requires-clause-found c =
+pub standing_of-standing-requires-clause-found : goal.standing_of-standing-requires-clause-found
+standing_of-standing-requires-clause-found c =
     subst (λ (l : List Row). AreAllAsked (step_at c.args.run.now c.args.j) l c.args.found.now) (sym c.as_slice-6.ensures.value) c.requires.found

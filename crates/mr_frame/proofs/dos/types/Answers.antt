@@ -4,7 +4,7 @@ use Rattle.mr_frame.proofs.dos.types.Goals as goal
 
 pub loop-arg-init : goal.loop-arg-init
 loop-arg-init c =
-    subst (λ (done : List Ty). Typing (env_surround c.args.e.now) c.args.args.now c.args.args.now done) (sym c.new-types.ensures.items) (typing_first c.args.e.now c.args.args.now c.requires)
+    subst (λ (done : List Ty). Typing (env_surround c.args.e.now) c.args.args.now c.args.args.now done) (sym c.clear.ensures.items) (typing_first c.args.e.now c.args.args.now c.requires)
 
 pub loop-arg-preserved : goal.loop-arg-preserved
 loop-arg-preserved c =

@@ -6,7 +6,7 @@ use Rattle.mr_frame.proofs.values.values.Goals as goal
 
 pub loop-arg-init : goal.loop-arg-init
 loop-arg-init c = record {
-  all = sym (ap (λ row. behind_row row (each_valued c.args.m.now (env_surround c.args.e.now) c.args.args.now (seen c.args.n.now))) c.new-row.ensures.items ∙ on_itself (each_valued c.args.m.now (env_surround c.args.e.now) c.args.args.now (seen c.args.n.now)));
+  all = sym (ap (λ row. behind_row row (each_valued c.args.m.now (env_surround c.args.e.now) c.args.args.now (seen c.args.n.now))) c.clear.ensures.items ∙ on_itself (each_valued c.args.m.now (env_surround c.args.e.now) c.args.args.now (seen c.args.n.now)));
   kept = extends_same (seen c.args.n.now) (seen c.args.n.now) refl;
 }
 

@@ -1,5 +1,5 @@
 use Rattle.mr_hunt.proofs.Common.{ℕ, List, ◌++◌, ◌∙◌, ap, ap₂, codes}
-use Rattle.mr_report.specs.Report.{line, verdict_text}
+use Rattle.mr_listing.specs.ReportReport.{line, verdict_text}
 use Rattle.mr_hunt.proofs.texts.told_text.Goals as goal
 
 pub returns : goal.returns

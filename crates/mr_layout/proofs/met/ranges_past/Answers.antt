@@ -1,4 +1,5 @@
-use Rattle.mr_layout.proofs.Common.{◌∙◌, arith, rules, nat_le, ◌+◌, ℕ}
+use Rattle.mr_layout.proofs.Common.{◌∙◌, arith, nat_le, ◌+◌, ℕ}
+use Rattle.std.proofs.Common.{rules}
 use Rattle.std.proofs.lemmas.List.{take_rest}
 use Rattle.std.proofs.lemmas.List.Sorted.{IsPartitionPoint-from_clause, IsPartitionedBy-leb}
 use Rattle.mr_layout.proofs.RunLaws.{ends_rise, past_point}

@@ -1,5 +1,5 @@
-use Rattle.mr_layout.proofs.Common.{◌≡◌, ℕ, ◌≤◌, Bool, true, false, List, Option, Some, None, length, refl, sym, ap, ap₂, subst, ◌∙◌, arith, nat_lt, IfSome, IfOk-weaker, Tag, Ty, Variant, size_of, is_in_chunk, is_used, is_used_field, is_used_in, Marks, is_first, is_used_row, are_tags_inside, is_some_tag_mark}
-use Rattle.std.specs.Prelude.{is_some}
+use Rattle.mr_layout.proofs.Common.{◌≡◌, ℕ, ◌≤◌, Bool, true, false, List, Option, Some, None, length, refl, sym, ap, subst, ◌∙◌, arith, nat_lt, IfSome, is_some, IfOk-weaker, Tag, Ty, Variant, size_of, is_in_chunk, is_used, is_used_field, is_used_in, Marks, is_first, is_used_row, are_tags_inside, is_some_tag_mark}
+use Rattle.std.proofs.Common.{ap₂}
 use Rattle.mr_ast.specs.declared.types.Ty.TheVariants as ty
 use Rattle.mr_layout.proofs.ArrayRows.{used_rows}
 use Rattle.mr_layout.proofs.UsedLaws.{used_int, used_bool, used_raw, used_fn_ptr, used_ref, used_tuple, used_array, used_union, used_enum}
@@ -47,10 +47,10 @@ broken-returns-in-Tuple-clause-marks t c =
 pub broken-returns-in-Union-clause-marks : goal.broken-returns-in-Union-clause-marks
 broken-returns-in-Union-clause-marks t c =
     let here = c.in-Union in
-    let same = ap₂ (ty.Union here.size here.align) c.as_slice-in-Union.ensures c.as_slice-in-Union-2.ensures ∙ sym here.is in
+    let same = ap₂ (ty.Union here.size here.align) c.as_slice-fields.ensures c.as_slice-chunks.ensures ∙ sym here.is in
     IfOk-weaker c.broken_union.result _ _
     (λ told h e.
-    marks_alike (is_used (ty.Union here.size here.align c.as_slice-in-Union.result.now c.as_slice-in-Union-2.result.now)) (is_used c.args.t.now) c.args.start c.args.table.now c.broken_union.new.table
+    marks_alike (is_used (ty.Union here.size here.align c.as_slice-fields.result.now c.as_slice-chunks.result.now)) (is_used c.args.t.now) c.args.start c.args.table.now c.broken_union.new.table
     (λ at. ap (λ (u : Ty). is_used u at) same) (h e))
     c.broken_union.ensures.marks
 

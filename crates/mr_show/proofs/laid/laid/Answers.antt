@@ -1,7 +1,7 @@
 use Rattle.mr_show.proofs.Common.{◌≡◌, ◌<◌, ◌^◌, ◌∙◌, List, ap, ap₂, arith, length, subst, sym, IfOk, Option, Footprint, Written, Seen, part_answer, part_values, gathered}
 use Rattle.mr_clocks.specs.Tracked.{Tracks}
 use Rattle.mr_event.specs.Predicted.{predicted}
-use Rattle.mr_plan.specs.Runs.{Config}
+use Rattle.mr_step.specs.PlanRuns.{Config}
 use Rattle.mr_start.specs.Steps.{Own}
 use Rattle.mr_listing.specs.declared.held.StepValues.{StepValues}
 use Rattle.mr_base.specs.declared.reached.Reached.{Reached}

@@ -1,6 +1,6 @@
 use Rattle.mr_show.proofs.Common.{ℕ, List, ◌++◌, ◌∙◌, ap}
 use Rattle.std.proofs.lemmas.Result.{on_ok_weaker}
-use Rattle.mr_report.specs.Report.{line}
+use Rattle.mr_listing.specs.ReportReport.{line}
 use Rattle.mr_show.specs.Sentences.{sentence_of}
 use Rattle.mr_show.proofs.sentences.push_reason.Goals as goal
 

@@ -1,5 +1,5 @@
 use Rattle.mr_traced.proofs.Common.{List, ℕ, ◌++◌, ◌∙◌, ap, ap₂, length, subst, flat_map, Group, AreGroups, group_text, seen}
-use Rattle.mr_report.specs.Report.{count_line}
+use Rattle.mr_listing.specs.ReportReport.{count_line}
 use Rattle.mr_listing.specs.Races.{by_count}
 use Rattle.mr_traced.proofs.GroupLaws.{few_groups}
 use Rattle.mr_traced.proofs.pairing.races_text.Goals as goal

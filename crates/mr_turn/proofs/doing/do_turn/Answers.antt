@@ -2,12 +2,12 @@ use Rattle.mr_turn.proofs.Common.{refl, subst, sym, Err, Option, Outcome, stop_w
 use Rattle.std.proofs.Common.{subst₂}
 use Rattle.mr_mem.specs.declared.fault.Fault.{Fault}
 use Rattle.mr_frame.specs.PlanLegal.{Fault as FaultOf}
-use Rattle.mr_turn.proofs.FrameAnswers.{turn_same}
+use Rattle.mr_turn.proofs.FrameAnswers.{turn_as}
 use Rattle.mr_turn.proofs.DoAnswers.{given_breaks, given_comes, operands_fit, stopped_comes, stopped_planned, stopped_turn}
 use Rattle.mr_turn.proofs.doing.do_turn.Goals as goal
 
-pub act-requires : goal.act-requires
-act-requires c =
+pub act-answer-requires : goal.act-answer-requires
+act-answer-requires c =
     let look = c.args.look.now in
     let stack = c.args.stack.now in
     let s = c.args.s.now in
@@ -57,7 +57,10 @@ returns-in-Ok c =
     let later : Scene = record s { notes = c.arguments.new.notes } in
     let b = do_breaks look stack later x c.in-Ok.call d picks in
     let o = do_comes_to look stack later x c.in-Ok.call d picks in
-    subst₂ (λ (b : Option FaultOf) (o : Outcome Turn (Shared × Notes)). TurnAnswer c.act.result b o c.act.new.s.notes.refused (Does stack s x o c.act.new.stack c.act.new.s c.act.new.sync) (IsSame stack s x c.act.new.stack c.act.new.s c.act.new.sync))
+    let after = c.act-answer.new.s in
+    let end : Scene = record after { notes = record after.notes { spare_values = c.in-Ok.call.args; spare_types = c.in-Ok.call.arg_types } } in
+    subst₂ (λ (b : Option FaultOf) (o : Outcome Turn (Shared × Notes)). TurnAnswer c.act-answer.result b o after.notes.refused (Does stack s x o c.act-answer.new.stack end c.act-answer.new.sync) (IsSame stack s x c.act-answer.new.stack end c.act-answer.new.sync))
     (sym (given_breaks look stack s x d due picks c.arguments.new.notes c.in-Ok.call given)) (sym (given_comes look stack s x d due picks c.arguments.new.notes c.in-Ok.call given))
-    (turn_same c.act.result b o c.act.new.s.notes.refused (Does stack s x o c.act.new.stack c.act.new.s c.act.new.sync) (IsSame stack later x c.act.new.stack c.act.new.s c.act.new.sync) (IsSame stack s x c.act.new.stack c.act.new.s c.act.new.sync)
-    (λ same. record { stack = same.stack; memory = same.memory; tables = same.tables }) (c.act.ensures d due))
+    (turn_as c.act-answer.result b o after.notes.refused (Does stack s x o c.act-answer.new.stack after c.act-answer.new.sync) (Does stack s x o c.act-answer.new.stack end c.act-answer.new.sync) (IsSame stack later x c.act-answer.new.stack after c.act-answer.new.sync) (IsSame stack s x c.act-answer.new.stack end c.act-answer.new.sync)
+    (λ done h. record { notes = h.notes; goes = h.goes; tally = h.tally; event = h.event; ended = h.ended; woken = h.woken; printed = h.printed })
+    (λ same. record { stack = same.stack; memory = same.memory; tables = same.tables }) (c.act-answer.ensures d due))
