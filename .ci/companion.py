@@ -41,7 +41,7 @@ EXAMPLES = f"{TOP}/examples"
 CLASS = f"{EXAMPLES}/class"
 CASES = f"{TOP}/crates/mirace_cases/data"
 STORED = f"{TOP}/crates/mirace_cases/stdout"
-USAGE = b"usage: steps P S [FIRST LAST] | json P S | races P S | rust P S | picture P S [FIRST LAST] | order P S FIRST LAST | races T PLACES | rust T [PLACES] | steps T PLACES [FIRST LAST] | steps T FIRST LAST | picture T PLACES [FIRST LAST] | next P S | check P [S] | fill P O | halt P O | hunt P FROM TO M [AIM] | draw P N M | why CODE | --help\n"
+USAGE = b"usage: steps P S [FIRST LAST] | json P S | races P S | rust P S | picture P S [FIRST LAST] | order P S FIRST LAST | witness P S J [short] | races T PLACES | rust T [PLACES] | steps T PLACES [FIRST LAST] | steps T FIRST LAST | picture T PLACES [FIRST LAST] | next P S | check P [S] | fill P O | halt P O | hunt P FROM TO M [AIM] | draw P N M | why CODE | --help\n"
 # The most seconds that a long run may take, on a slow machine.
 PATIENCE = 40
 # The line of a step, with its number, its thread, its place, its function, its block and its statement.
@@ -52,6 +52,8 @@ RUNS, STEPS, SPEAKING = 800, 8000, 150
 FEW, REFUSED = 4, 100
 # As many steps are drawn at most.
 DRAWN = 500
+# The schedule of the race of examples/race.
+RACE_WITNESS = b"schedule 1\nstart 16 17 4096 64\n0 8192\n0 8200\n0 8208 8216\n1 8224\n0\n1\n"
 # The second of two steps that race, without a place.
 ONE_RACE = b"2  thread 0\n        load address 19, 1 byte\n        races with step 1\nraces 1\n"
 
@@ -122,6 +124,13 @@ def cases(at):
         yield f"6, a folder, {form}", [form, "folder", example("print.sched")], b"read program\n", 6
         yield f"6, no schedule, {form}", [form, example("print.mr"), "missing"], b"read schedule\n", 6
         yield f"6, a folder for the schedule, {form}", [form, example("print.mr"), "folder"], b"read schedule\n", 6
+    yield "1, a schedule for a race", ["witness", example("race.mr"), example("race.sched"), "9"], RACE_WITNESS, 1
+    yield "1, no race of a step", ["witness", example("race.mr"), example("race.sched"), "4", "short"], b"step 4 races with no earlier step\n", 1
+    yield "3, a text, witness", ["witness", example("unknown-name.mr"), "missing", "1"], b"text 4 18 5 UnknownName\n", 3
+    yield "4, a program, witness", ["witness", example("ill-formed.mr"), "missing", "1"], b"form main b0 2 32 BlockKind\n", 4
+    yield "5, a rule, witness", ["witness", example("print.mr"), example("print-reused.sched"), "1"], b"schedule 3 64 Reused 0 0\n", 5
+    yield "6, no program, witness", ["witness", "missing", example("print.sched"), "1"], b"read program\n", 6
+    yield "6, a folder for the schedule, witness", ["witness", example("print.mr"), "folder", "1"], b"read schedule\n", 6
     yield "0, a right program", ["check", "one.mr"], b"one.mr: well-formed\n", 0
     yield "0, a right schedule", ["check", "one.mr", "one.sched"], b"one.sched: legal, 1 entries\n", 0
     yield "6, no program to check", ["check", "missing"], b"read program\n", 6
@@ -183,7 +192,7 @@ def helps(judge, at):
     """The text of each help begins with its form, in lines of at most 120 bytes, and names no other."""
     for words, first in (([], b"mirace_show steps P S [FIRST LAST]   "), (["steps"], b"mirace_show steps P S [FIRST LAST]\n"),
                          (["json"], b"mirace_show json P S\n"), (["races"], b"mirace_show races P S\n"), (["rust"], b"mirace_show rust P S\n"), (["picture"], b"mirace_show picture P S [FIRST LAST]\n"), (["next"], b"mirace_show next P S\n"), (["check"], b"mirace_show check P [S]\n"),
-                         (["fill"], b"mirace_show fill P O | halt P O\n"), (["halt"], b"mirace_show fill P O | halt P O\n"), (["hunt"], b"mirace_show hunt P FROM TO M [AIM]\n"), (["draw"], b"mirace_show hunt P FROM TO M [AIM]\n"), (["order"], b"mirace_show order P S FIRST LAST\n"),
+                         (["fill"], b"mirace_show fill P O | halt P O\n"), (["halt"], b"mirace_show fill P O | halt P O\n"), (["hunt"], b"mirace_show hunt P FROM TO M [AIM]\n"), (["draw"], b"mirace_show hunt P FROM TO M [AIM]\n"), (["order"], b"mirace_show order P S FIRST LAST\n"), (["witness"], b"mirace_show witness P S J [short]\n"),
                          (["why"], b"mirace_show why CODE\n")):
         wrote, ended = ran([*words, "--help"], at)
         is_well = wrote.startswith(first) and max(map(len, wrote.split(b"\n"))) <= 120 and ended == 0

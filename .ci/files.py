@@ -23,8 +23,9 @@ KINDS = (
     ("A new command", (("Canonical|Check", ("mr_command", "mirace")),)),
     ("A command that reads another kind of file", (("OfTrace", ()),)),
     ("A report in another form", (("Short", ("mr_answer", "mr_command")),)),
-    ("A new form of the companion", (("Order|OfOrdered", ("mr_show", "mirace_show")), ("Races|OfRaces", ("mr_show", "mirace_show")),
-                                     ("CheckedProgram|OfCheck", ("mr_show", "mirace_show")))),
+    ("A new form of the companion", (("Order|order_help|OF_ORDERED", ("mr_show", "mirace_show")),
+                                     ("Races|races_help|OF_RACES", ("mr_show", "mirace_show")),
+                                     ("CheckedProgram|check_help|OF_CHECK", ("mr_show", "mirace_show")))),
 )
 FOLDERS = ("specs", "src", "proofs")
 

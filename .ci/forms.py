@@ -33,7 +33,8 @@ start 16 4096
 0
 """
 USAGE = ("usage: steps P S [FIRST LAST] | json P S | races P S | rust P S | picture P S [FIRST LAST] | "
-         "order P S FIRST LAST | races T PLACES | rust T [PLACES] | steps T PLACES [FIRST LAST] | "
+         "order P S FIRST LAST | witness P S J [short] | races T PLACES | rust T [PLACES] | "
+         "steps T PLACES [FIRST LAST] | "
          "steps T FIRST LAST | picture T PLACES [FIRST LAST] | "
          "next P S | check P [S] | fill P O | halt P O | hunt P FROM TO M [AIM] | draw P N M | why CODE | --help\n")
 EXITS = """1  thread 0  4:13  main b0  exit
@@ -115,6 +116,10 @@ ANSWERED = (
     ("order P S 2 1", "step 2 and step 1: the first must be earlier, and 0 steps were completed\n", 0),
     ("order P S 0 0", "step 1 and step 1: the first must be earlier, and 0 steps were completed\n", 0),
     ("order P S 4294967295 1", "step 4294967295 and step 1: the first must be earlier, and 0 steps were completed\n", 0),
+    ("witness P S 1", "step 1 races with no earlier step\n", 0),
+    ("witness P S 4294967295 short", "step 4294967295 races with no earlier step\n", 0),
+    ("witness Q S 1", "read program\n", 6),
+    ("witness P Q 1 short", "read schedule\n", 6),
     ("hunt P 0 3 1", "4 times, first 0: verdict exit\nnumbers 4\n", 0),
     ("hunt P 7 8 0", "2 times, first 7: verdict running\nnumbers 2\n", 0),
     ("hunt P 5 5 1048576", "once, first 5: verdict exit\nnumbers 1\n", 0),
@@ -152,7 +157,10 @@ REFUSED = (
     (EXIT, TOO_FAR, "races P S", "schedule 4 66 AfterStop\n", 5),
     (EXIT, TOO_FAR, "rust P S", "schedule 4 66 AfterStop\n", 5),
     (EXIT, TOO_FAR, "json P S", "schedule 4 66 AfterStop\n", 5),
+    (EXIT, TOO_FAR, "witness P S 1", "schedule 4 66 AfterStop\n", 5),
+    (ILL_FORMED, SCHEDULE, "witness P Q 1 short", "form main b0 0 32 BlockKind\n", 4),
     (NO_TRACED, SCHEDULE, "json P S", "text 1 5 1 BadByte\n", 3),
+    (NO_TRACED, SCHEDULE, "witness P S 1", "text 1 5 1 BadByte\n", 3),
     (EXIT, EXIT, "steps P S", "schedule 1 50 BadHeader\n", 5),
     ("minirust !\n", SCHEDULE, "check P", BAD_BYTE, 3),
     ("minirust !\n", SCHEDULE, "check P S", BAD_BYTE, 3),
@@ -214,6 +222,8 @@ FORMLESS = (
     "picture P S 1", "run P S", "--helps", "next P", "fill P", "why", "why 65536", "why Nothing", "why badnumber", "whys 66",
     "check", "check P S 1", "check P S 1 2", "checks P", "checks P S", "Check P",
     "order P S", "order P S 1", "order P S 1 4294967296", "order P S 01 2", "order P S 1 2 3", "orders P S 1 2",
+    "witness P", "witness P S", "witness P S 0", "witness P S 01", "witness P S x", "witness P S 4294967296",
+    "witness P S 1 long", "witness P S 0 short", "witness P S 1 short 2", "witnes P S 1",
     "hunt P", "hunt P 0 3", "hunt P 3 2 1", "hunt P 0 3 1048577", "hunt P 0 18446744073709551616 1", "hunt P 00 3 1",
     "hunt P 0 3 1 Nothing", "hunt P 0 3 1 prints", "hunt P 0 3 1 4", "hunt P 0 3 1 4 4294967296",
     "draw P", "draw P 1", "draw P 1 1048577", "draw P 18446744073709551616 1", "draw P 1 2 3", "draws P 1 2",

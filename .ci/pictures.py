@@ -5,9 +5,10 @@
   others. All that it draws lies in its view box, and no two texts overlap, if a byte has at most 8 pixels. No link comes
   within 8 of the mark of a step that isn't one of its two. Where rsvg-convert and xmllint are there, they read those of
   docs/pictures without a complaint.
-- Its steps are those of the listing. Its arrows are those that plain.py's edges give: between steps of two threads of which
-  one comes before the other by a chain of edges, where no step lies between. Its races are those of the report, and the
-  witness's column has each drawn step once where there is a race.
+- Its line of threads names each with the function that the step of its start tells. Its steps are those of the listing.
+  Its arrows are those that plain.py's edges give: between steps of two threads of which one comes before the other by a
+  chain of edges, where no step lies between. Its races are those of the report, and the witness's column has each drawn
+  step once where there is a race.
 
     python3 .ci/pictures.py [--write] [COMPANION]      the first check alone; with --write it makes the pictures
 """
@@ -200,6 +201,17 @@ def races_in(picture):
                 yield int(found.group(1)), int(found.group(2))
 
 
+def threads_named(picture):
+    """The threads with their functions, as their line has them, and as the steps tell them: nothing where no first step
+    stands anywhere."""
+    titles = picture.titled("step") + picture.titled("racing") + picture.titled("stop")
+    steps = sorted((int(found.group(1)), title) for title in titles if (found := re.match(r"step (\d+), thread ", title)))
+    main = re.match(r"step 1, thread 0  \d+:\d+  (\S+) ", steps[0][1]) if steps else None
+    started = [it for _, title in steps for it in re.findall(r"^starts thread (\d+) in (\S+)$", title, re.M)]
+    wanted = [", ".join(f"T{thread} {function}" for thread, function in [("0", main.group(1)), *started])] if main else []
+    return [it for it in picture.titled("note") if it.startswith("T0 ")], wanted
+
+
 def numbers(titles, form):
     return [int(re.fullmatch(form, it, re.S).group(1)) for it in titles if re.fullmatch(form, it, re.S)]
 
@@ -213,6 +225,8 @@ def picture(judge, what, text, steps, feet, pairs):
     judge(f"{what}: no link of its picture comes near a foreign mark", not list(too_near(it)), f"{list(too_near(it))[:3]}")
     marks = sorted(numbers(it.titled("step") + it.titled("racing") + it.titled("stop"), r"step (\d+), thread .*"))
     judge(f"{what}: the steps of its picture", marks == [step.number for step in steps], f"{marks}")
+    named, wanted = threads_named(it)
+    judge(f"{what}: the threads of its picture", not wanted or named == wanted, f"{named}, not {wanted}")
     wanted = sorted(arrows(feet))
     judge(f"{what}: the arrows of its picture", sorted(arrows_in(it)) == wanted, f"{sorted(arrows_in(it))}, not {wanted}")
     judge(f"{what}: the races of its picture", sorted(races_in(it)) == sorted(pairs), f"{sorted(races_in(it))}, not {sorted(pairs)}")

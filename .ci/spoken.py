@@ -13,7 +13,9 @@ OF_MEMORY = {*range(103, 109), *range(127, 131)}
 LINE = re.compile(
     rb"it speaks of (?:no allocation|(?P<name>.+), which has (?P<size>\d+) bytes?(?: and was freed by step (?P<freed>\d+))?): "
     rb"(?P<doing>load of|store of|atomic change of|move over|reference to|freeing of) (?P<length>\d+) bytes? "
-    rb"at (?:byte (?P<at>-?\d+)|address \d+)")
+    rb"at (?:byte (?P<at>-?\d+), )?address (?P<address>\d+)")
+# No program here has a type of a greater alignment.
+MOST_ALIGNED = 4096
 ACCESSES = (b"load of", b"store of", b"atomic change of")
 BLOCK = re.compile(rb"the block of step (\d+)")
 LOCAL = re.compile(rb"(\w+) of (\w+), thread (\d+)")
@@ -26,6 +28,7 @@ class Told:
         it = LINE.fullmatch(line).groupdict()
         self.name, self.doing = it["name"], it["doing"]
         self.size, self.freed, self.length, self.at = (it[key] and int(it[key]) for key in ("size", "freed", "length", "at"))
+        self.address = int(it["address"])
         self.is_whole = (it["at"] is None) == (self.name is None)
 
     def is_inside(self):
@@ -43,7 +46,7 @@ def fits(code, told):
     """Whether what is told is what the reason says."""
     is_alive = told.name is not None and not told.freed
     return told.is_whole and {
-        103: told.doing in ACCESSES,
+        103: told.doing in ACCESSES and told.address % MOST_ALIGNED != 0,
         104: told.name is None and told.doing != b"reference to",
         105: told.freed and told.doing != b"reference to",
         106: is_alive and not told.is_inside() and told.doing not in (b"reference to", b"freeing of"),

@@ -1,11 +1,13 @@
 -- The keys of a step as lists.
-use Rattle.mr_clocks.proofs.Common.{◌≡◌, ℕ, ◌+◌, ◌<◌, ◌≤◌, ◌⊎◌, inl, inr, List, [], ◌∷◌, ◌++◌, Bool, true, false, map, length, get_or, take, refl, sym, ◌∙◌, ap, arith, Some, ◌==◌, ◌&&◌, ◌||◌, slice_index, Contains, list_any, and_from, and_parts, eq-eqb, eqb-true, false≢true, or_cases, or_left, or_right, get_or-map, length-map, take_all, Contains-append_left, Contains-append_right, list_any_at, Access, AllocId, Event, Quiet, CreateLock, Acquire, Release, Spawn, Join, races, some_race, Footprint, lock_of, same_number, spawns, Key, Lock, Creation, Spawning, Starts, Joins, Made, Touched, Range, Wakes, Row, IsExact, asks, creates, end_asked, end_noted, event_asked, event_noted, has_row, joins, made_keys, range_keys, same_access, same_bool, spawns_some, starts, touched_keys, ArePlaces, IsRowFor}
-use Rattle.std.specs.Prelude.{slice_index_or, All}
+use Rattle.mr_clocks.proofs.Common.{◌≡◌, ℕ, ◌+◌, ◌<◌, ◌≤◌, ◌⊎◌, inl, inr, List, [], ◌∷◌, ◌++◌, Bool, true, false, map, length, get_or, take, refl, sym, ◌∙◌, ap, arith, Some, ◌==◌, ◌&&◌, ◌||◌, slice_index, Contains, list_any, and_from, and_parts, eq-eqb, eqb-true, false≢true, or_cases, or_left, or_right, get_or-map, length-map, take_all, Contains-append_left, Contains-append_right, list_any_at, Access, AllocId, Event, Quiet, CreateLock, Acquire, Release, Spawn, Join, races, some_race, Footprint, lock_of, same_number, spawns, Key, Lock, Creation, Spawning, Starts, Joins, Made, Touched, Range, Wakes, Row, IsExact, asks, creates, end_asked, end_noted, event_asked, event_noted, has_row, joins, made_keys, range_keys, same_access, same_bool, spawns_some, starts, touched_keys, ArePlaces, IsRowFor, subst}
+use Rattle.std.specs.Prelude.{slice_index_or, All, not}
 use Rattle.std.proofs.lemmas.List.{append_assoc, map_more}
 use Rattle.std.proofs.lemmas.List.Elements.{All-append, All-cons, All-map, All-nil}
 use Rattle.std.proofs.lemmas.Map.Views.{Contains-from_any}
+use Rattle.std.proofs.lemmas.Bool.{not-true, not_from_false}
 use Rattle.mr_base.specs.Identities.{same_id}
-use Rattle.mr_clocks.specs.Keys.{keys_asked, keys_noted}
+use Rattle.mr_clocks.specs.Keys.{keys_asked, keys_noted, is_shared, lock_key, stores}
+use Rattle.mr_clocks.specs.declared.keys.Key.TheVariants.{Storing}
 use Rattle.mr_clocks.proofs.KeyLaws.{same_access_refl, same_id_refl}
 
 -- ---- lists that are made an element at a time
@@ -71,13 +73,13 @@ any_mapped eq make exact x xs h =
 
 -- ---- the keys of an event
 
-lock_noted : (e : Event) (n : ℕ) → same_number (lock_of e) (Some n) ≡ true → Contains (event_noted e) (Lock n)
-lock_noted (CreateLock l) n h = (0, omega arith, ap Lock (eqb-true l n h))
-lock_noted (Acquire l) n h = (0, omega arith, ap Lock (eqb-true l n h))
-lock_noted (Release l) n h = (0, omega arith, ap Lock (eqb-true l n h))
-lock_noted Quiet n h = absurd (false≢true h)
-lock_noted (Spawn t) n h = absurd (false≢true h)
-lock_noted (Join t) n h = absurd (false≢true h)
+lock_noted : (b : Bool) (e : Event) (n : ℕ) → same_number (lock_of e) (Some n) ≡ true → Contains (event_noted b e) (lock_key b n)
+lock_noted b (CreateLock l) n h = (0, omega arith, ap (lock_key b) (eqb-true l n h))
+lock_noted b (Acquire l) n h = (0, omega arith, ap (lock_key b) (eqb-true l n h))
+lock_noted b (Release l) n h = (0, omega arith, ap (lock_key b) (eqb-true l n h))
+lock_noted b Quiet n h = absurd (false≢true h)
+lock_noted b (Spawn t) n h = absurd (false≢true h)
+lock_noted b (Join t) n h = absurd (false≢true h)
 
 lock_asked : (e : Event) (n : ℕ) → same_number (lock_of e) (Some n) ≡ true → Contains (event_asked e) (Lock n)
 lock_asked (CreateLock l) n h = (0, omega arith, ap Lock (eqb-true l n h))
@@ -87,29 +89,37 @@ lock_asked Quiet n h = absurd (false≢true h)
 lock_asked (Spawn t) n h = absurd (false≢true h)
 lock_asked (Join t) n h = absurd (false≢true h)
 
-creation_noted : (e : Event) → creates e ≡ true → Contains (event_noted e) Creation
-creation_noted (CreateLock l) h = (1, omega arith, refl)
-creation_noted Quiet h = absurd (false≢true h)
-creation_noted (Acquire l) h = absurd (false≢true h)
-creation_noted (Release l) h = absurd (false≢true h)
-creation_noted (Spawn t) h = absurd (false≢true h)
-creation_noted (Join t) h = absurd (false≢true h)
+storing_asked : (e : Event) (n : ℕ) → same_number (lock_of e) (Some n) ≡ true → Contains (event_asked e) (Storing n)
+storing_asked (CreateLock l) n h = (1, omega arith, ap Storing (eqb-true l n h))
+storing_asked (Acquire l) n h = (1, omega arith, ap Storing (eqb-true l n h))
+storing_asked (Release l) n h = (1, omega arith, ap Storing (eqb-true l n h))
+storing_asked Quiet n h = absurd (false≢true h)
+storing_asked (Spawn t) n h = absurd (false≢true h)
+storing_asked (Join t) n h = absurd (false≢true h)
+
+creation_noted : (b : Bool) (e : Event) → creates e ≡ true → Contains (event_noted b e) Creation
+creation_noted b (CreateLock l) h = (1, omega arith, refl)
+creation_noted b Quiet h = absurd (false≢true h)
+creation_noted b (Acquire l) h = absurd (false≢true h)
+creation_noted b (Release l) h = absurd (false≢true h)
+creation_noted b (Spawn t) h = absurd (false≢true h)
+creation_noted b (Join t) h = absurd (false≢true h)
 
 creation_asked : (e : Event) → creates e ≡ true → Contains (event_asked e) Creation
-creation_asked (CreateLock l) h = (1, omega arith, refl)
+creation_asked (CreateLock l) h = (2, omega arith, refl)
 creation_asked Quiet h = absurd (false≢true h)
 creation_asked (Acquire l) h = absurd (false≢true h)
 creation_asked (Release l) h = absurd (false≢true h)
 creation_asked (Spawn t) h = absurd (false≢true h)
 creation_asked (Join t) h = absurd (false≢true h)
 
-spawning_noted : (e : Event) → spawns_some e ≡ true → Contains (event_noted e) Spawning
-spawning_noted (Spawn t) h = (0, omega arith, refl)
-spawning_noted Quiet h = absurd (false≢true h)
-spawning_noted (CreateLock l) h = absurd (false≢true h)
-spawning_noted (Acquire l) h = absurd (false≢true h)
-spawning_noted (Release l) h = absurd (false≢true h)
-spawning_noted (Join t) h = absurd (false≢true h)
+spawning_noted : (b : Bool) (e : Event) → spawns_some e ≡ true → Contains (event_noted b e) Spawning
+spawning_noted b (Spawn t) h = (0, omega arith, refl)
+spawning_noted b Quiet h = absurd (false≢true h)
+spawning_noted b (CreateLock l) h = absurd (false≢true h)
+spawning_noted b (Acquire l) h = absurd (false≢true h)
+spawning_noted b (Release l) h = absurd (false≢true h)
+spawning_noted b (Join t) h = absurd (false≢true h)
 
 spawning_asked : (e : Event) → spawns_some e ≡ true → Contains (event_asked e) Spawning
 spawning_asked (Spawn t) h = (0, omega arith, refl)
@@ -119,13 +129,13 @@ spawning_asked (Acquire l) h = absurd (false≢true h)
 spawning_asked (Release l) h = absurd (false≢true h)
 spawning_asked (Join t) h = absurd (false≢true h)
 
-join_noted : (e : Event) (t : ℕ) → joins e t ≡ true → Contains (event_noted e) (Joins t)
-join_noted (Join s) t h = (0, omega arith, ap Joins (eqb-true s t h))
-join_noted Quiet t h = absurd (false≢true h)
-join_noted (CreateLock l) t h = absurd (false≢true h)
-join_noted (Acquire l) t h = absurd (false≢true h)
-join_noted (Release l) t h = absurd (false≢true h)
-join_noted (Spawn s) t h = absurd (false≢true h)
+join_noted : (b : Bool) (e : Event) (t : ℕ) → joins e t ≡ true → Contains (event_noted b e) (Joins t)
+join_noted b (Join s) t h = (0, omega arith, ap Joins (eqb-true s t h))
+join_noted b Quiet t h = absurd (false≢true h)
+join_noted b (CreateLock l) t h = absurd (false≢true h)
+join_noted b (Acquire l) t h = absurd (false≢true h)
+join_noted b (Release l) t h = absurd (false≢true h)
+join_noted b (Spawn s) t h = absurd (false≢true h)
 
 join_asked : (e : Event) (t : ℕ) → joins e t ≡ true → Contains (event_asked e) (Starts t)
 join_asked (Join s) t h = (0, omega arith, ap Starts (eqb-true s t h))
@@ -136,13 +146,13 @@ join_asked (Release l) t h = absurd (false≢true h)
 join_asked (Spawn s) t h = absurd (false≢true h)
 
 -- of a spawned thread: the second key in whose rows the step is noted, and the second that it asks
-spawn_noted : (e : Event) (t : ℕ) → spawns e t ≡ true → Contains (event_noted e) (Starts t)
-spawn_noted (Spawn s) t h = (1, omega arith, ap Starts (eqb-true s t h))
-spawn_noted Quiet t h = absurd (false≢true h)
-spawn_noted (CreateLock l) t h = absurd (false≢true h)
-spawn_noted (Acquire l) t h = absurd (false≢true h)
-spawn_noted (Release l) t h = absurd (false≢true h)
-spawn_noted (Join s) t h = absurd (false≢true h)
+spawn_noted : (b : Bool) (e : Event) (t : ℕ) → spawns e t ≡ true → Contains (event_noted b e) (Starts t)
+spawn_noted b (Spawn s) t h = (1, omega arith, ap Starts (eqb-true s t h))
+spawn_noted b Quiet t h = absurd (false≢true h)
+spawn_noted b (CreateLock l) t h = absurd (false≢true h)
+spawn_noted b (Acquire l) t h = absurd (false≢true h)
+spawn_noted b (Release l) t h = absurd (false≢true h)
+spawn_noted b (Join s) t h = absurd (false≢true h)
 
 spawn_asked : (e : Event) (t : ℕ) → spawns e t ≡ true → Contains (event_asked e) (Joins t)
 spawn_asked (Spawn s) t h = (1, omega arith, ap Joins (eqb-true s t h))
@@ -172,11 +182,11 @@ module _ (f : Footprint) where
   abbrev behind_event : List Key
   behind_event = end_noted f.ended f.thread ++ behind_end
 
-  in_event : (k : Key) → Contains (event_noted f.event) k → Contains (keys_noted f) k
-  in_event k c = Contains-append_left (event_noted f.event) behind_event k c
+  in_event : (k : Key) → Contains (event_noted (stores f) f.event) k → Contains (keys_noted f) k
+  in_event k c = Contains-append_left (event_noted (stores f) f.event) behind_event k c
 
   past_event : (k : Key) → Contains behind_event k → Contains (keys_noted f) k
-  past_event k c = Contains-append_right (event_noted f.event) behind_event k c
+  past_event k c = Contains-append_right (event_noted (stores f) f.event) behind_event k c
 
   past_end : (k : Key) → Contains behind_end k → Contains (keys_noted f) k
   past_end k c = past_event k (Contains-append_right (end_noted f.ended f.thread) behind_end k c)
@@ -186,18 +196,23 @@ module _ (f : Footprint) where
 
   starts_listed : (t : ℕ) → starts f t ≡ true → Contains (keys_noted f) (Starts t)
   starts_listed t h = elim (or_cases (spawns f.event t) (f.ended && (f.thread == t)) h) [
-    | inl e ↦ in_event (Starts t) (spawn_noted f.event t e)
+    | inl e ↦ in_event (Starts t) (spawn_noted (stores f) f.event t e)
     | inr e ↦
         let p = and_parts f.ended (f.thread == t) e in
         past_event (Starts t) (Contains-append_left (end_noted f.ended f.thread) behind_end (Starts t) (ended_noted f.ended f.thread t p.0 p.1))
   ]
 
+  -- the key of a lock, by whether some access stores
+  lock_listed : (n : ℕ) (b : Bool) → stores f ≡ b → same_number (lock_of f.event) (Some n) ≡ true → Contains (keys_noted f) (lock_key b n)
+  lock_listed n b is h = in_event (lock_key b n) (subst (λ (q : Bool). Contains (event_noted (stores f) f.event) (lock_key q n)) is (lock_noted (stores f) f.event n h))
+
   pub noted_listed : (k : Key) → has_row f k ≡ true → Contains (keys_noted f) k
-  noted_listed (Lock n) h = in_event (Lock n) (lock_noted f.event n h)
-  noted_listed Creation h = in_event Creation (creation_noted f.event h)
-  noted_listed Spawning h = in_event Spawning (spawning_noted f.event h)
+  noted_listed (Lock n) h = let p = and_parts (same_number (lock_of f.event) (Some n)) (not (stores f)) h in lock_listed n false (not-true (stores f) p.1) p.0
+  noted_listed (Storing n) h = let p = and_parts (same_number (lock_of f.event) (Some n)) (stores f) h in lock_listed n true p.1 p.0
+  noted_listed Creation h = in_event Creation (creation_noted (stores f) f.event h)
+  noted_listed Spawning h = in_event Spawning (spawning_noted (stores f) f.event h)
   noted_listed (Starts t) h = starts_listed t h
-  noted_listed (Joins t) h = in_event (Joins t) (join_noted f.event t h)
+  noted_listed (Joins t) h = in_event (Joins t) (join_noted (stores f) f.event t h)
   noted_listed (Made a) h = past_end (Made a) (Contains-append_left (made_keys f.allocated) behind_made (Made a) (any_mapped same_id Made id_exact a f.allocated h))
   noted_listed (Touched a) h = past_made (Touched a) (Contains-append_left (touched_keys f.touched) (range_keys f.accesses) (Touched a) (any_mapped same_id Touched id_exact a f.touched h))
   noted_listed (Range r) h = past_made (Range r) (Contains-append_right (touched_keys f.touched) (range_keys f.accesses) (Range r) (any_mapped same_access Range access_exact r f.accesses h))
@@ -208,13 +223,20 @@ module _ (f : Footprint) where
   abbrev Notes : Key → Type 0
   Notes k = has_row f k ≡ true
 
-  event_each : (e : Event) → f.event ≡ e → All Notes (event_noted e)
+  lock_each : (n : ℕ) (b : Bool) → stores f ≡ b → same_number (lock_of f.event) (Some n) ≡ true → has_row f (lock_key b n) ≡ true
+  lock_each n true some h = and_from (same_number (lock_of f.event) (Some n)) (stores f) h some
+  lock_each n false none h = and_from (same_number (lock_of f.event) (Some n)) (not (stores f)) h (not_from_false (stores f) none)
+
+  acts : (e : Event) (n : ℕ) → f.event ≡ e → lock_of e ≡ Some n → Notes (lock_key (stores f) n)
+  acts e n is of = lock_each n (stores f) refl (ap (λ d. same_number (lock_of d) (Some n)) is ∙ ap (λ o. same_number o (Some n)) of ∙ eq-eqb n n refl)
+
+  event_each : (e : Event) → f.event ≡ e → All Notes (event_noted (stores f) e)
   event_each Quiet is = All-nil Notes
   event_each (CreateLock l) is =
-      All-cons Notes (Lock l) (Creation ∷ []) (ap (λ d. same_number (lock_of d) (Some l)) is ∙ eq-eqb l l refl)
+      All-cons Notes (lock_key (stores f) l) (Creation ∷ []) (acts (CreateLock l) l is refl)
       (All-cons Notes Creation [] (ap creates is) (All-nil Notes))
-  event_each (Acquire l) is = All-cons Notes (Lock l) [] (ap (λ d. same_number (lock_of d) (Some l)) is ∙ eq-eqb l l refl) (All-nil Notes)
-  event_each (Release l) is = All-cons Notes (Lock l) [] (ap (λ d. same_number (lock_of d) (Some l)) is ∙ eq-eqb l l refl) (All-nil Notes)
+  event_each (Acquire l) is = All-cons Notes (lock_key (stores f) l) [] (acts (Acquire l) l is refl) (All-nil Notes)
+  event_each (Release l) is = All-cons Notes (lock_key (stores f) l) [] (acts (Release l) l is refl) (All-nil Notes)
   event_each (Spawn t) is =
       let here : spawns f.event t ≡ true = ap (λ d. spawns d t) is ∙ eq-eqb t t refl in
       All-cons Notes Spawning (Starts t ∷ []) (ap spawns_some is)
@@ -227,7 +249,7 @@ module _ (f : Footprint) where
 
   pub each_noted : All Notes (keys_noted f)
   each_noted =
-      All-append Notes (event_noted f.event) behind_event (event_each f.event refl)
+      All-append Notes (event_noted (stores f) f.event) behind_event (event_each f.event refl)
       (All-append Notes (end_noted f.ended f.thread) behind_end (end_each f.ended refl)
       (All-append Notes (made_keys f.allocated) behind_made (All-map Notes Made f.allocated (λ k d lt. list_any_at (same_id (get_or f.allocated k d)) f.allocated k d lt (same_id_refl (get_or f.allocated k d))))
       (All-append Notes (touched_keys f.touched) (range_keys f.accesses) (All-map Notes Touched f.touched (λ k d lt. list_any_at (same_id (get_or f.touched k d)) f.touched k d lt (same_id_refl (get_or f.touched k d))))
@@ -279,6 +301,7 @@ module _ (g : Footprint) where
 
   pub asked_listed : (k : Key) → IsExact k → asks g k ≡ true → Contains (keys_asked g) k
   asked_listed (Lock n) x h = from_event (Lock n) (lock_asked g.event n h)
+  asked_listed (Storing n) x h = from_event (Storing n) (storing_asked g.event n h)
   asked_listed Creation x h = from_event Creation (creation_asked g.event h)
   asked_listed Spawning x h = from_event Spawning (spawning_asked g.event h)
   asked_listed (Starts t) x h = from_event (Starts t) (join_asked g.event t h)
@@ -293,6 +316,7 @@ module _ (g : Footprint) where
 pub exact_or_range : (k : Key) → IsExact k ⊎ ((r : Access) × (k ≡ Range r))
 exact_or_range (Range r) = inr (r, refl)
 exact_or_range (Lock n) = inl tt
+exact_or_range (Storing n) = inl tt
 exact_or_range Creation = inl tt
 exact_or_range Spawning = inl tt
 exact_or_range (Starts t) = inl tt
@@ -315,7 +339,7 @@ places_from step rows places keys thread are of many each =
     record {
       each = λ y lt.
           let r = each y Creation (omega (arith, lt, many)) in
-          (r.within, r.of_thread ∙ of, ap (has_row step) (r.of_key ∙ ap (λ (l : List Key). get_or l y Creation) are) ∙ each_noted step y Creation (let long = ap length are in omega (arith, lt, many, long)));
+          (r.within, λ own. r.of_thread (ap is_shared (sym r.of_key) ∙ own) ∙ of, ap (has_row step) (r.of_key ∙ ap (λ (l : List Key). get_or l y Creation) are) ∙ each_noted step y Creation (let long = ap length are in omega (arith, lt, many, long)));
       all = λ key noted.
           let c = noted_listed step key noted in
           let long = ap length are in

@@ -15,6 +15,7 @@ use Rattle.std.specs.declared.ops.Bound.TheVariants.{Included}
 use Rattle.mr_base.proofs.Comparisons.{lt_from}
 use Rattle.mr_clocks.specs.declared.index.Mark.{Mark}
 use Rattle.mr_clocks.specs.Marks.{IsShelfOf, mark_cmp, place_of, shelf_of}
+use Rattle.mr_clocks.specs.declared.keys.Key.TheVariants.{Storing}
 
 -- ---- the order of marks
 
@@ -182,6 +183,7 @@ on_new_shelf old new r shelf e wide same small =
 pub shelf_kept : (old new : List Shelf) (key : Key) (s : ℕ) → AreKept old new → IsShelfOf old key s → IsShelfOf new key s
 shelf_kept old new (Range r) s kept b = on_kept old new r s kept b
 shelf_kept old new (Lock n) s kept b = b
+shelf_kept old new (Storing n) s kept b = b
 shelf_kept old new Creation s kept b = b
 shelf_kept old new Spawning s kept b = b
 shelf_kept old new (Starts t) s kept b = b
@@ -257,7 +259,7 @@ row_pushed rows new row x at e =
     record {
       within = let long = ap length e in omega (arith, at, long, length-append rows (row ∷ []));
       of_key = ap (λ (r : Row). r.key) same;
-      of_thread = ap (λ (r : Row). r.thread) same;
+      of_thread = λ _. ap (λ (r : Row). r.thread) same;
     }
 
 pub grown_trans : (one two three : List Row) → IsGrown one two → IsGrown two three → IsGrown one three
@@ -332,6 +334,7 @@ exact_mark shelves marks key x exact m = ap (λ (q : ℕ). has_mark marks (mark_
     exact_shelf : (k : Key) (s : ℕ) → IsExact k → IsShelfOf shelves k s → s ≡ shelf_of k
     exact_shelf (Range r) s exact b = absurd exact
     exact_shelf (Lock n) s exact b = b
+    exact_shelf (Storing n) s exact b = b
     exact_shelf Creation s exact b = b
     exact_shelf Spawning s exact b = b
     exact_shelf (Starts t) s exact b = b

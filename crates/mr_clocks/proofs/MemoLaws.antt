@@ -1,6 +1,9 @@
 -- Memos beside rows that grow, and beside rows that take links.
-use Rattle.mr_clocks.proofs.Common.{◌≡◌, ℕ, ◌+◌, List, length, slice_index, refl, sym, ◌∙◌, ap, subst, arith, Footprint, DoTheSame, Key, Lock, Creation, Spawning, Starts, Joins, Made, Touched, Range, Wakes, Row, asks, has_row, AreMemos, IsMemo, IsMemoOf, memo_at, AreAllAsked, ArePlaces, HaveKeysOf, IsGrown, row_at}
+use Rattle.mr_clocks.proofs.Common.{◌≡◌, ℕ, ◌+◌, List, length, slice_index, refl, sym, ◌∙◌, ap, subst, arith, Footprint, DoTheSame, Key, Lock, Creation, Spawning, Starts, Joins, Made, Touched, Range, Wakes, Row, asks, has_row, AreMemos, IsMemo, IsMemoOf, memo_at, AreAllAsked, ArePlaces, HaveKeysOf, IsGrown, row_at, false}
 use Rattle.mr_event.proofs.AlikeLaws.{alike_equal}
+use Rattle.mr_clocks.specs.declared.keys.Key.TheVariants.{Storing}
+use Rattle.mr_clocks.specs.Keys.{is_shared}
+use Rattle.mr_clocks.specs.Rows.{IsOwn}
 use Rattle.mr_clocks.proofs.Noting.{grown_row}
 
 -- a step with whom another one woke
@@ -19,6 +22,7 @@ waking_as f g = record {
 -- it asks the same keys
 asks_waking : (f g : Footprint) (key : Key) → asks (waking_as f g) key ≡ asks f key
 asks_waking f g (Lock n) = refl
+asks_waking f g (Storing n) = refl
 asks_waking f g Creation = refl
 asks_waking f g Spawning = refl
 asks_waking f g (Starts t) = refl
@@ -31,6 +35,7 @@ asks_waking f g (Wakes t) = refl
 -- and is noted in rows of the same keys
 has_row_waking : (f g : Footprint) (key : Key) → has_row (waking_as f g) key ≡ has_row f key
 has_row_waking f g (Lock n) = refl
+has_row_waking f g (Storing n) = refl
 has_row_waking f g Creation = refl
 has_row_waking f g Spawning = refl
 has_row_waking f g (Starts t) = refl
@@ -90,7 +95,7 @@ places_grown old new step places g p =
           let at = p.each y lt in
           let inside = at.0 in
           let same = grown_row old new g (slice_index places y) inside in
-          (omega (arith, inside, longer), ap (λ (r : Row). r.thread) same ∙ at.1, ap (λ (r : Row). has_row step r.key) same ∙ at.2);
+          (omega (arith, inside, longer), λ own. ap (λ (r : Row). r.thread) same ∙ at.1 (ap (λ (r : Row). is_shared r.key) (sym same) ∙ own), ap (λ (r : Row). has_row step r.key) same ∙ at.2);
       all = λ key noted.
           let t = p.all key noted in
           let at = p.each t.0 t.1 in
@@ -107,7 +112,7 @@ memos_grown old new memos g all = λ x lt.
       low = omega (arith, low, longer);
       asked = λ y less apart it_asks.
           let same = grown_row old new g y (omega (arith, less, low)) in
-          m.asked y less (λ is. apart (ap (λ (r : Row). r.thread) same ∙ is)) (ap (λ (r : Row). asks memo.0 r.key) (sym same) ∙ it_asks);
+          m.asked y less (λ own. apart (subst (λ (r : Row). IsOwn r memo.0.thread) (sym same) own)) (ap (λ (r : Row). asks memo.0 r.key) (sym same) ∙ it_asks);
       noted = λ some. places_grown old new memo.0 memo.3 g (m.noted some);
     }
 
@@ -119,7 +124,9 @@ places_same old new step places keys p =
       each = λ y lt.
           let at = p.each y lt in
           let inside = at.0 in
-          (omega (arith, inside, many), keys.thread (slice_index places y) ∙ at.1, ap (has_row step) (keys.key (slice_index places y)) ∙ at.2);
+          let alone : is_shared (row_at new (slice_index places y)).key ≡ false → is_shared (row_at old (slice_index places y)).key ≡ false =
+          λ own. ap is_shared (sym (keys.key (slice_index places y))) ∙ own in
+          (omega (arith, inside, many), λ own. keys.thread (slice_index places y) (alone own) ∙ at.1 (alone own), ap (has_row step) (keys.key (slice_index places y)) ∙ at.2);
       all = λ key noted.
           let t = p.all key noted in
           (t.0, t.1, keys.key (slice_index places t.0) ∙ t.2);
@@ -133,7 +140,7 @@ memos_same old new memos keys all = λ x lt.
     let many = keys.many in
     record {
       low = omega (arith, low, many);
-      asked = λ r less apart it_asks. m.asked r less (λ is. apart (keys.thread r ∙ is)) (ap (asks memo.0) (sym (keys.key r)) ∙ it_asks);
+      asked = λ r less apart it_asks. m.asked r less (λ own. apart (ap is_shared (keys.key r) ∙ own.0, keys.thread r own.0 ∙ own.1)) (ap (asks memo.0) (sym (keys.key r)) ∙ it_asks);
       noted = λ some. places_same old new memo.0 memo.3 keys (m.noted some);
     }
 

@@ -1,8 +1,9 @@
 -- One step more in the rows.
-use Rattle.mr_clocks.proofs.Common.{◌≡◌, ◌≢◌, ℕ, ◌+◌, ◌<◌, ◌≤◌, inl, inr, List, [], ◌∷◌, ◌++◌, true, length, get_or, set, slice_index, refl, sym, ◌∙◌, ap, subst, arith, get_or-set_other, get_or-set_same, get_or-take, get_or_append_left, get_or_push, length-set, length_push, ℕ_discrete, dec_lt, Footprint, step_at, thread_at, Key, Row, Link, has_row, AreLinks, AreLonger, ArePartly, ArePlaces, AreRows, HaveKeysOf, IsBelow, IsGrown, IsIn, IsKept, IsOfRow, IsRow, IsRowFor, link_at, no_link, no_row, row_at, step_of}
+use Rattle.mr_clocks.proofs.Common.{◌≡◌, ◌≢◌, ℕ, ◌+◌, ◌<◌, ◌≤◌, inl, inr, List, [], ◌∷◌, ◌++◌, true, length, get_or, set, slice_index, refl, sym, ◌∙◌, ap, subst, arith, get_or-set_other, get_or-set_same, get_or-take, get_or_append_left, get_or_push, length-set, length_push, ℕ_discrete, dec_lt, Footprint, step_at, thread_at, Key, Row, Link, has_row, AreLinks, AreLonger, ArePartly, ArePlaces, AreRows, HaveKeysOf, IsBelow, IsGrown, IsIn, IsKept, IsOfRow, IsRow, IsRowFor, link_at, no_link, no_row, row_at, step_of, false}
 use Rattle.std.proofs.Common.{append_assoc}
 use Rattle.std.proofs.lemmas.List.{append-nil}
 use Rattle.mr_clocks.specs.Rows.{IsHeld, IsNoted}
+use Rattle.mr_clocks.specs.Keys.{is_shared}
 use Rattle.mr_clocks.proofs.Chains.{in_behind, in_cases, in_here, in_less, in_low, in_more, in_none}
 
 -- the rows before a step is noted
@@ -13,12 +14,13 @@ partly_start run j rows links a =
       each = λ x lt. let r = a.each x lt in record {
         last = r.last;
         steps = λ k inside. let s = r.steps k inside in record { within = let less = s.within in omega (arith, less); thread = s.thread; noted = s.noted };
+        newest = r.newest;
       };
       held = a.held;
     }
 
 -- one row, in which a step is noted
-module _ (run : List Footprint) (j x : ℕ) (rows rows' : List Row) (links links' : List Link) (p : ArePartly run j rows links) (inside : x < length rows) (thread : (row_at rows x).thread ≡ thread_at run j) (noted : has_row (step_at run j) (row_at rows x).key ≡ true) (n : IsNoted rows links x j rows' links') where
+module _ (run : List Footprint) (j x : ℕ) (rows rows' : List Row) (links links' : List Link) (p : ArePartly run j rows links) (inside : x < length rows) (thread : is_shared (row_at rows x).key ≡ false → (row_at rows x).thread ≡ thread_at run j) (noted : has_row (step_at run j) (row_at rows x).key ≡ true) (n : IsNoted rows links x j (thread_at run j) rows' links') where
   link_new : link_at links' (length links) ≡ (record { step = j; before = n.before })
   link_new = ap (λ (l : List Link). link_at l (length links)) n.linked ∙ get_or_push links (record { step = j; before = n.before }) no_link (length links) refl
 
@@ -99,7 +101,7 @@ module _ (run : List Footprint) (j x : ℕ) (rows rows' : List Row) (links links
   key_new : (row_at rows' x).key ≡ (row_at rows x).key
   key_new = ap (λ (r : Row). r.key) n.here
 
-  thread_new : (row_at rows' x).thread ≡ (row_at rows x).thread
+  thread_new : (row_at rows' x).thread ≡ thread_at run j
   thread_new = ap (λ (r : Row). r.thread) n.here
 
   -- a step that was of the row is
@@ -108,7 +110,9 @@ module _ (run : List Footprint) (j x : ℕ) (rows rows' : List Row) (links links
       let is : step_of links' k ≡ step_of links k = ap (λ (l : Link). l.step) (link_old k lt) in
       record {
         within = let less = s.within in omega (arith, is, less);
-        thread = ap (thread_at run) is ∙ s.thread ∙ sym thread_new;
+        thread = λ own.
+            let alone : is_shared (row_at rows x).key ≡ false = ap is_shared (sym key_new) ∙ own in
+            ap (thread_at run) is ∙ s.thread alone ∙ thread alone ∙ sym thread_new;
         noted = ap (λ (q : ℕ). has_row (step_at run q) (row_at rows' x).key) is ∙ ap (has_row (step_at run (step_of links k))) key_new ∙ s.noted;
       }
 
@@ -117,7 +121,7 @@ module _ (run : List Footprint) (j x : ℕ) (rows rows' : List Row) (links links
       let is : step_of links' k ≡ j = ap (step_of links') e ∙ ap (λ (l : Link). l.step) link_new in
       record {
         within = omega (arith, is);
-        thread = ap (thread_at run) is ∙ sym thread ∙ sym thread_new;
+        thread = λ _. ap (thread_at run) is ∙ sym thread_new;
         noted = ap (λ (q : ℕ). has_row (step_at run q) (row_at rows' x).key) is ∙ ap (has_row (step_at run j)) key_new ∙ noted;
       }
 
@@ -139,6 +143,10 @@ module _ (run : List Footprint) (j x : ℕ) (rows rows' : List Row) (links links
           let most = old_row.last in
           still_of k (omega (arith, low, most)) (old_row.steps k was)
     ];
+    newest = λ k e.
+        let same : k ≡ length links = omega (arith, e, last_new) in
+        let is : step_of links' k ≡ j = ap (step_of links') same ∙ ap (λ (l : Link). l.step) link_new in
+        ap (thread_at run) is ∙ sym thread_new;
   }
 
   other_row : (y : ℕ) → y ≢ x → y < length rows → IsRow run (j + 1) links' (row_at rows' y)
@@ -152,6 +160,9 @@ module _ (run : List Footprint) (j x : ℕ) (rows rows' : List Row) (links links
             let low = in_low links p.chained was most in
             let is : step_of links' k ≡ step_of links k = ap (λ (l : Link). l.step) (link_old k (omega (arith, low, most))) in
             subst (λ (q : ℕ). IsOfRow run (j + 1) (row_at rows y) q) (sym is) (old.steps k was);
+        newest = λ k e.
+            let is : step_of links' k ≡ step_of links k = ap (λ (l : Link). l.step) (link_old k (omega (arith, e, most))) in
+            ap (thread_at run) is ∙ old.newest k e;
       })
 
   -- what was kept in the row is kept in it
@@ -218,8 +229,8 @@ module _ (run : List Footprint) (j x : ℕ) (rows rows' : List Row) (links links
       | no ne ↦ ap (λ (r : Row). r.key) (n.others y ne)
     ];
     thread = λ y. elim (ℕ_discrete y x) [
-      | yes e ↦ subst (λ (q : ℕ). (row_at rows' q).thread ≡ (row_at rows q).thread) (sym e) thread_new
-      | no ne ↦ ap (λ (r : Row). r.thread) (n.others y ne)
+      | yes e ↦ subst (λ (q : ℕ). is_shared (row_at rows q).key ≡ false → (row_at rows' q).thread ≡ (row_at rows q).thread) (sym e) (λ own. thread_new ∙ sym (thread own))
+      | no ne ↦ λ _. ap (λ (r : Row). r.thread) (n.others y ne)
     ];
   }
 
@@ -236,17 +247,20 @@ module _ (run : List Footprint) (j x : ℕ) (rows rows' : List Row) (links links
           row = h.row;
           within = let many = n.many in let low = h.within in omega (arith, many, low);
           of_key = keys_still.key h.row ∙ h.of_key;
-          of_thread = keys_still.thread h.row ∙ h.of_thread;
           kept = kept_still h.row i h.within h.kept;
         };
   }
 
 -- rows that have the keys of those that have the keys of the first have them too
 pub keys_trans : (one two three : List Row) → HaveKeysOf one two → HaveKeysOf two three → HaveKeysOf one three
-keys_trans one two three a b = record { many = b.many ∙ a.many; key = λ x. b.key x ∙ a.key x; thread = λ x. b.thread x ∙ a.thread x }
+keys_trans one two three a b = record {
+  many = b.many ∙ a.many;
+  key = λ x. b.key x ∙ a.key x;
+  thread = λ x own. b.thread x (ap is_shared (a.key x) ∙ own) ∙ a.thread x own;
+}
 
 pub keys_same : (rows : List Row) → HaveKeysOf rows rows
-keys_same rows = record { many = refl; key = λ x. refl; thread = λ x. refl }
+keys_same rows = record { many = refl; key = λ x. refl; thread = λ x _. refl }
 
 -- the step is noted in all its rows
 pub partly_ends : (run : List Footprint) (j : ℕ) (first rows : List Row) (links : List Link) (places : List ℕ) → ArePartly run j rows links → ArePlaces (step_at run j) first places → HaveKeysOf first rows → ((y : ℕ) → y < length places → IsKept links (row_at rows (slice_index places y)).last j) → AreRows run (j + 1) rows links
@@ -268,7 +282,6 @@ partly_ends run j first rows links places p at keys kept =
           row = slice_index places t.0;
           within = let low = place.0 in let many = keys.many in omega (arith, low, many);
           of_key = keys.key (slice_index places t.0) ∙ t.2;
-          of_thread = keys.thread (slice_index places t.0) ∙ place.1;
           kept = kept t.0 t.1;
         }
 
@@ -285,7 +298,11 @@ rows_grown run n old new links a g =
         | yes low ↦ subst (λ (r : Row). IsRow run n links r) (sym (grown_row old new g x low)) (a.each x low)
         | no high ↦
             let none = g.empty x (omega (arith, high)) lt in
-            record { last = omega (arith, none); steps = λ k r. absurd (in_none links k (row_at new x).last none r) }
+            record {
+              last = omega (arith, none);
+              steps = λ k r. absurd (in_none links k (row_at new x).last none r);
+              newest = λ k e. absurd (omega (arith, none, e));
+            }
       ];
       held = λ i key lt noted.
           let h = a.held i key lt noted in
@@ -294,7 +311,6 @@ rows_grown run n old new links a g =
             row = h.row;
             within = let low = h.within in let longer = g.longer in omega (arith, low, longer);
             of_key = ap (λ (r : Row). r.key) same ∙ h.of_key;
-            of_thread = ap (λ (r : Row). r.thread) same ∙ h.of_thread;
             kept = subst (λ (r : Row). IsKept links r.last i) (sym same) h.kept;
           };
     }
@@ -306,7 +322,7 @@ row_for_grown old new x key thread g r =
     record {
       within = let low = r.within in let longer = g.longer in omega (arith, low, longer);
       of_key = ap (λ (w : Row). w.key) same ∙ r.of_key;
-      of_thread = ap (λ (w : Row). w.thread) same ∙ r.of_thread;
+      of_thread = λ own. ap (λ (w : Row). w.thread) same ∙ r.of_thread own;
     }
 
 -- one place more
@@ -325,22 +341,22 @@ places_more rows rows' places places' keys thread i place many g old here e z d 
 abbrev row_of : Key → ℕ → ℕ → Row
 row_of key thread last = record { key = key; thread = thread; last = last }
 
-same_row : (a b : Row) (l m : ℕ) → a ≡ b → l ≡ m → row_of a.key a.thread l ≡ row_of b.key b.thread m
-same_row a b l m e f = λ i. row_of (e i).key (e i).thread (f i)
+same_row : (a b : Row) (thread l m : ℕ) → a ≡ b → l ≡ m → row_of a.key thread l ≡ row_of b.key thread m
+same_row a b thread l m e f = λ i. row_of (e i).key thread (f i)
 
 -- what is written when a step is noted
-pub noted_from : (rows rows' : List Row) (links links' : List Link) (x j before last : ℕ) (row : Row) → x < length rows → row ≡ row_at rows x → IsBelow links row.last j before → links' ≡ links ++ (record { step = j; before = before }) ∷ [] → rows' ≡ set rows x (record { key = row.key; thread = row.thread; last = last }) → last ≡ length links + 1 → IsNoted rows links x j rows' links'
-noted_from rows rows' links links' x j before last row inside is below linked written at =
+pub noted_from : (rows rows' : List Row) (links links' : List Link) (x j thread before last : ℕ) (row : Row) → x < length rows → row ≡ row_at rows x → IsBelow links row.last j before → links' ≡ links ++ (record { step = j; before = before }) ∷ [] → rows' ≡ set rows x (record { key = row.key; thread = thread; last = last }) → last ≡ length links + 1 → IsNoted rows links x j thread rows' links'
+noted_from rows rows' links links' x j thread before last row inside is below linked written at =
     record {
       before = before;
       below = subst (λ (r : Row). IsBelow links r.last j before) is below;
       linked = linked;
-      many = ap length written ∙ length-set rows x (record { key = row.key; thread = row.thread; last = last });
+      many = ap length written ∙ length-set rows x (record { key = row.key; thread = thread; last = last });
       here =
           ap (λ (l : List Row). row_at l x) written
-          ∙ get_or-set_same rows x (record { key = row.key; thread = row.thread; last = last }) no_row inside
-          ∙ same_row row (row_at rows x) last (length links + 1) is at;
-      others = λ y apart. ap (λ (l : List Row). row_at l y) written ∙ get_or-set_other rows x y (record { key = row.key; thread = row.thread; last = last }) no_row apart;
+          ∙ get_or-set_same rows x (record { key = row.key; thread = thread; last = last }) no_row inside
+          ∙ same_row row (row_at rows x) thread last (length links + 1) is at;
+      others = λ y apart. ap (λ (l : List Row). row_at l y) written ∙ get_or-set_other rows x y (record { key = row.key; thread = thread; last = last }) no_row apart;
     }
 
 -- more links behind more links
@@ -351,12 +367,13 @@ pub longer_none : (links : List Link) → AreLonger links links
 longer_none links = ([], sym (append-nil links))
 
 -- one place more is noted
-pub noted_more : (run : List Footprint) (j y : ℕ) (first rows rows' : List Row) (links links' : List Link) (places : List ℕ) → ArePartly run j rows links → ArePlaces (step_at run j) first places → HaveKeysOf first rows → y < length places → IsNoted rows links (slice_index places y) j rows' links' → ((z : ℕ) → z < y → IsKept links (row_at rows (slice_index places z)).last j) → ArePartly run j rows' links' × HaveKeysOf first rows' × ((z : ℕ) → z < y + 1 → IsKept links' (row_at rows' (slice_index places z)).last j)
+pub noted_more : (run : List Footprint) (j y : ℕ) (first rows rows' : List Row) (links links' : List Link) (places : List ℕ) → ArePartly run j rows links → ArePlaces (step_at run j) first places → HaveKeysOf first rows → y < length places → IsNoted rows links (slice_index places y) j (thread_at run j) rows' links' → ((z : ℕ) → z < y → IsKept links (row_at rows (slice_index places z)).last j) → ArePartly run j rows' links' × HaveKeysOf first rows' × ((z : ℕ) → z < y + 1 → IsKept links' (row_at rows' (slice_index places z)).last j)
 noted_more run j y first rows rows' links links' places p at keys lt n kept =
     let x = slice_index places y in
     let place = at.each y lt in
     let inside : x < length rows = (let low = place.0 in let many = keys.many in omega (arith, low, many)) in
-    let thread : (row_at rows x).thread ≡ thread_at run j = keys.thread x ∙ place.1 in
+    let thread : is_shared (row_at rows x).key ≡ false → (row_at rows x).thread ≡ thread_at run j = λ own.
+    (let alone : is_shared (row_at first x).key ≡ false = ap is_shared (sym (keys.key x)) ∙ own in keys.thread x alone ∙ place.1 alone) in
     let noted : has_row (step_at run j) (row_at rows x).key ≡ true = ap (has_row (step_at run j)) (keys.key x) ∙ place.2 in (
       partly_more run j x rows rows' links links' p inside thread noted n,
       keys_trans first rows rows' keys (keys_still run j x rows rows' links links' p inside thread noted n),

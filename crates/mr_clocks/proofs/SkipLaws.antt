@@ -1,11 +1,12 @@
 -- Walks over rows, and the skips that they leave.
-use Rattle.mr_clocks.proofs.Common.{◌≡◌, ℕ, ◌+◌, ◌<◌, ◌≤◌, ◌⊎◌, inl, inr, List, [], ◌∷◌, ◌++◌, Bool, true, length, length-append, get_or, set, take, slice_index, refl, sym, ◌∙◌, ap, subst, arith, Contains, list_any, both_ways, get_or-take, get_or_append_left, get_or_push, get_or_read, Contains-append_left, Any-from_list_any, list_any_at, Access, races, some_race, Footprint, no_step, step_at, Edge, any_weaker, Row, Link, IsUnder, AreLinks, AreLonger, IsIn, IsOfRow, IsRow, link_at, step_of, AreAmong, AreSkips, IsServing, IsSkip, IsWalking, skip_at}
+use Rattle.mr_clocks.proofs.Common.{◌≡◌, ℕ, ◌+◌, ◌<◌, ◌≤◌, ◌⊎◌, inl, inr, List, [], ◌∷◌, ◌++◌, Bool, true, length, length-append, get_or, set, take, refl, sym, ◌∙◌, ap, subst, arith, Contains, list_any, both_ways, get_or-take, get_or_append_left, get_or_push, get_or_read, Contains-append_left, Any-from_list_any, list_any_at, Access, races, some_race, Footprint, no_step, step_at, Edge, any_weaker, Row, Link, IsUnder, AreLinks, AreLonger, IsIn, IsOfRow, IsRow, link_at, step_of, AreAmong, AreSkips, IsServing, IsSkip, IsWalking, skip_at, ◌≢◌, thread_at, IsPart}
 use Rattle.std.proofs.lemmas.List.Elements.{Contains-push, Contains-push_cases}
 use Rattle.mr_clocks.specs.Keys.{IsWakes}
 use Rattle.mr_clocks.specs.Rows.{IsRowSeen}
 use Rattle.mr_clocks.specs.Skips.{RacesBy, no_skip}
 use Rattle.mr_clocks.proofs.Each.{each_pushed, each_set}
 use Rattle.mr_clocks.proofs.Chains.{in_behind, in_cases, in_here, in_less, in_low, in_more, in_most, in_none, link_left}
+use Rattle.mr_clocks.proofs.RowLaws.{row_under}
 
 -- ---- accesses by which steps race
 
@@ -160,20 +161,19 @@ walking_skip run j at links row whole by more skip s serves other kept taken cov
     jumped : (k : ℕ) → IsIn links k at → IsIn links k skip.1 ⊎ RacesBy run (step_of links k) skip.2
     jumped k there = s.passed k (subst (λ (q : ℕ). IsIn links k q) (sym serves.begins) there)
 
--- a walk that comes to a step that lies under the clock has seen the row
-pub walking_known : (run : List Footprint) (j m at : ℕ) (links : List Link) (row : Row) (whole : Bool) (by : List Access) (clock : List ℕ) → AreLinks links → IsRow run j links row → at ≡ m + 1 → IsUnder run clock (step_of links m) → IsWalking run j at links row whole by → IsRowSeen run links row clock j
-walking_known run j m at links row whole by clock a r e under w = λ k here h counts.
+-- a walk that comes to a step that lies under the clock, or is of j's thread, has seen the row
+pub walking_known : (run : List Footprint) (j m at : ℕ) (links : List Link) (row : Row) (whole : Bool) (by : List Access) (clock : List ℕ) → AreLinks links → IsRow run j links row → IsPart run clock j → at ≡ m + 1 → (thread_at run (step_of links m) ≢ thread_at run j → IsUnder run clock (step_of links m)) → IsWalking run j at links row whole by → IsRowSeen run links row clock j
+walking_known run j m at links row whole by clock a r part e known w = λ k here apart h counts.
     elim (w.passed k here) [
       | inr none ↦ absurd (none h counts)
       | inl there ↦
-          let up_to = in_most links a m k at e w.low there in
-          let number = ap (slice_index clock) ((r.steps k here).thread ∙ sym (walking_step run j m at links row whole by w r e).thread) in
-          omega (arith, up_to, number, under)
+          row_under run j row (step_of links k) (step_of links m) clock part (r.steps k here) (walking_step run j m at links row whole by w r e)
+          (in_most links a m k at e w.low there) known apart
     ]
 
 -- and so has one that comes to the end
 pub walking_end : (run : List Footprint) (j at : ℕ) (links : List Link) (row : Row) (whole : Bool) (by : List Access) (clock : List ℕ) → at ≡ 0 → IsWalking run j at links row whole by → IsRowSeen run links row clock j
-walking_end run j at links row whole by clock e w = λ k here h counts.
+walking_end run j at links row whole by clock e w = λ k here apart h counts.
     elim (w.passed k here) [
       | inr none ↦ absurd (none h counts)
       | inl there ↦ absurd (in_none links k at e there)

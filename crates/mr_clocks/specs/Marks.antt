@@ -8,8 +8,8 @@ use Rattle.std.specs.Ordering.{nat_cmp, ordering_then}
 use Rattle.std.specs.declared.cmp.Ordering.{Ordering}
 use Rattle.mr_base.specs.declared.access.Access.{Access}
 use Rattle.mr_clocks.specs.declared.keys.Key.{Key}
-use Rattle.mr_clocks.specs.declared.keys.Key.TheVariants.{Lock, Creation, Spawning, Starts, Joins, Made, Touched}
-use Rattle.mr_clocks.specs.declared.keys.Key.TheVariants.{Range, Wakes}
+use Rattle.mr_clocks.specs.declared.keys.Key.TheVariants.{Lock, Storing, Creation, Spawning, Starts, Joins, Made}
+use Rattle.mr_clocks.specs.declared.keys.Key.TheVariants.{Touched, Range, Wakes}
 use Rattle.mr_clocks.specs.declared.index.Mark.{Mark}
 use Rattle.mr_clocks.specs.declared.index.Shelf.{Shelf}
 use Rattle.mr_clocks.specs.declared.rows.Row.{Row}
@@ -44,13 +44,15 @@ shelf_of Spawning = 2
 shelf_of (Starts _) = 3
 shelf_of (Joins _) = 4
 shelf_of (Wakes _) = 5
-shelf_of (Made a) = 2 * a.thread + 6
-shelf_of (Touched a) = 2 * a.thread + 7
+shelf_of (Storing _) = 6
+shelf_of (Made a) = 2 * a.thread + 7
+shelf_of (Touched a) = 2 * a.thread + 8
 shelf_of (Range _) = 0
 
 -- the place of a key in its shelf
 abbrev pub place_of : Key → ℕ
 place_of (Lock lock) = lock
+place_of (Storing lock) = lock
 place_of Creation = 0
 place_of Spawning = 0
 place_of (Starts thread) = thread

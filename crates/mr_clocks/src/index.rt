@@ -7,13 +7,13 @@ ghost use Rattle.mr_base.specs.declared.access.Access.{Access};
 ghost use Rattle.mr_clocks.specs.declared.keys.Key.{Key};
 ghost use Rattle.mr_clocks.specs.declared.keys.Key.TheVariants.{Range};
 ghost use Rattle.mr_clocks.specs.declared.index.Mark.{Mark};
-ghost use Rattle.mr_clocks.specs.Keys.{IsExact};
+ghost use Rattle.mr_clocks.specs.Keys.{IsExact, is_shared as has_one_row};
 ghost use Rattle.mr_clocks.specs.Marks.{AreKept, AreMarked, IsMarked, IsOnShelf, IsShelfOf, has_mark, mark_of, place_of, shelf_at, shelf_of};
 ghost use Rattle.mr_clocks.specs.Rows.{AreAllAsked, IsAsked, IsGrown, IsListed, IsRowFor};
 ghost use Rattle.mr_clocks.specs.Spans.{AreSpansOf, IsReached, span_at};
 
-use crate::keys::{Key, asked_by, same_key};
-use crate::rows::Row;
+use crate::keys::{Key, asked_by, is_shared, same_key};
+use crate::rows::{Row, is_own};
 use crate::spans::{Span, Spans, chosen, may_ask, spans_of};
 use mr_base::Access;
 use mr_event::{Footprint, OutOfMemory};
@@ -55,8 +55,9 @@ fn exact_shelf(key: Key) -> u64
         Key::Starts(_) => 3,
         Key::Joins(_) => 4,
         Key::Wakes(_) => 5,
-        Key::Made(a) => 2 * u64::from(a.thread) + 6,
-        Key::Touched(a) => 2 * u64::from(a.thread) + 7,
+        Key::Storing(_) => 6,
+        Key::Made(a) => 2 * u64::from(a.thread) + 7,
+        Key::Touched(a) => 2 * u64::from(a.thread) + 8,
         Key::Range(_) => 0,
     }
 }
@@ -66,7 +67,7 @@ fn key_place(key: Key) -> u64
     ensures { result ≡ place_of key }
 {
     match key {
-        Key::Lock(lock) => u64::from(lock),
+        Key::Lock(lock) | Key::Storing(lock) => u64::from(lock),
         Key::Creation => 0,
         Key::Spawning => 0,
         Key::Starts(thread) => u64::from(thread),
@@ -149,7 +150,7 @@ fn use_shelf(shelves: &mut Vec<Shelf>, key: Key) -> Result<u64, OutOfMemory>
     }
 }
 
-/// Appends a place, if the row there is of another thread and the step may ask its key.
+/// Appends a place, if the row there may have steps of other threads and the step may ask its key.
 pub(crate) fn add_asked(
     found: &mut Vec<usize>,
     rows: &[Row],
@@ -165,7 +166,7 @@ pub(crate) fn add_asked(
         return Ok(());
     }
     let row = rows[x];
-    if row.thread == step.thread() || !may_ask(row.key, step, spans) {
+    if is_own(row, step.thread()) || !may_ask(row.key, step, spans) {
         return Ok(());
     }
     found.push(x)?;
@@ -440,7 +441,7 @@ fn collect_keys(
     Ok(())
 }
 
-/// The places of all rows of other threads that the step asks, and maybe of others.
+/// The places of all rows that the step asks but those of its own thread alone, and maybe of others.
 pub(crate) fn rows_asked(
     alloc: Global,
     index: &Index,
@@ -457,7 +458,17 @@ pub(crate) fn rows_asked(
     Ok(found)
 }
 
-// Whether there is a row of a key and a thread at a place.
+// Whether a row serves a thread: each does where the key is shared.
+fn serves_thread(row: Row, key: Key, thread: u32) -> bool
+    ensures { IsTrue result → has_one_row key ≡ false → row.thread ≡ thread }
+{
+    if is_shared(key) {
+        return true;
+    }
+    row.thread == thread
+}
+
+// Whether there is a row of a key at a place, and of a thread where the key isn't shared.
 fn is_row_for(rows: &[Row], x: usize, key: Key, thread: u32) -> bool
     ensures { IsTrue result → IsRowFor rows.now x key thread }
 {
@@ -465,7 +476,12 @@ fn is_row_for(rows: &[Row], x: usize, key: Key, thread: u32) -> bool
         return false;
     }
     let row = rows[x];
-    row.thread == thread && same_key(row.key, key)
+    serves_thread(row, key, thread) && same_key(row.key, key)
+}
+
+// The thread in the mark of a row: 0 where all threads have the key's row in common.
+fn marked_thread(key: Key, thread: u32) -> u32 {
+    if is_shared(key) { 0 } else { thread }
 }
 
 // The place of a row of a key and a thread among those that are marked in a shelf, if there is one.
@@ -473,16 +489,17 @@ fn row_for(marks: &BTreeSet<Mark>, rows: &[Row], shelf: u64, key: Key, thread: u
     ensures { IfSome result (λ x. IsRowFor rows.now x key thread) }
 {
     let at = key_place(key);
+    let marked = marked_thread(key, thread);
     let first = Mark {
         shelf,
         place: at,
-        thread,
+        thread: marked,
         row: 0,
     };
     let last = Mark {
         shelf,
         place: at,
-        thread,
+        thread: marked,
         row: usize::MAX,
     };
     for mark in marks.range(first..=last) {
@@ -516,7 +533,7 @@ fn mark_row(
     Ok(())
 }
 
-/// The place of a row of a key and a thread, which is made where it isn't found.
+/// The place of a row of a key and a thread, or of the one row of a shared key, which is made where it isn't found.
 pub(crate) fn place_for(
     index: &mut Index,
     rows: &mut Vec<Row>,
@@ -533,7 +550,7 @@ pub(crate) fn place_for(
         return Ok(x);
     }
     let row = rows.len();
-    mark_row(index, shelf, key, thread, row)?;
+    mark_row(index, shelf, key, marked_thread(key, thread), row)?;
     rows.push(Row {
         key,
         thread,

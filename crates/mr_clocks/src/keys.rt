@@ -6,7 +6,7 @@ ghost use Rattle.mr_base.specs.Accesses.{conflicts as conflict_of, races as race
 ghost use Rattle.mr_base.specs.Identities.{same_id as is_same_id};
 ghost use Rattle.mr_event.specs.Footprints.{lock_of, same_number, spawns};
 ghost use Rattle.mr_clocks.specs.Keys.{IsWakes, asks as does_ask, creates, end_asked, end_noted, event_asked, event_noted, joins, key_races};
-ghost use Rattle.mr_clocks.specs.Keys.{keys_asked, keys_noted, made_keys, range_keys, spawns_some, touched_keys};
+ghost use Rattle.mr_clocks.specs.Keys.{is_shared as has_one_row, keys_asked, keys_noted, lock_key, made_keys, range_keys, spawns_some, stores as does_store, touched_keys};
 
 use mr_base::{Access, AllocId, ranges_meet};
 use mr_event::{Event, Footprint, OutOfMemory};
@@ -15,7 +15,9 @@ use std::alloc::Global;
 /// What two steps may have in common.
 #[derive(Clone, Copy, Debug, PartialEq, Eq)]
 pub enum Key {
+    /// A lock: noted by steps that store nothing, which stand in one row, and by those that store something.
     Lock(u32),
+    Storing(u32),
     /// The making of a lock.
     Creation,
     /// The making of a thread.
@@ -76,15 +78,52 @@ fn add_touched(keys: &mut Vec<Key>, ids: &[AllocId]) -> Result<(), OutOfMemory>
     Ok(())
 }
 
-// Appends the keys in whose rows a step with an event is noted.
-fn add_event_noted(keys: &mut Vec<Key>, event: Event) -> Result<(), OutOfMemory>
-    ensures { OnOk result (keys.new.items ≡ keys.old.items ++ event_noted event) }
+/// Whether the steps of all threads that are noted under the key stand in one row.
+pub(crate) fn is_shared(key: Key) -> bool
+    ensures { result ≡ has_one_row key }
+{
+    match key {
+        Key::Lock(_) => true,
+        _ => false,
+    }
+}
+
+// Whether some of the accesses stores.
+fn some_stores(accesses: &[Access]) -> bool
+    ensures { result ≡ list_any (λ a. a.store) accesses.now }
+{
+    accesses.iter().any(|a| a.store)
+}
+
+// Whether some access of the step stores.
+fn stores(step: &Footprint) -> bool
+    ensures { result ≡ does_store step.now }
+{
+    some_stores(step.accesses())
+}
+
+// The key of a lock in whose rows a step is noted that acts on it.
+fn key_of_lock(storing: bool, lock: u32) -> Key
+    ensures { result ≡ lock_key storing lock }
+{
+    if storing {
+        Key::Storing(lock)
+    } else {
+        Key::Lock(lock)
+    }
+}
+
+// Appends the keys in whose rows a step with an event is noted, by whether some access of it stores.
+fn add_event_noted(keys: &mut Vec<Key>, storing: bool, event: Event) -> Result<(), OutOfMemory>
+    ensures { OnOk result (keys.new.items ≡ keys.old.items ++ event_noted storing event) }
 {
     match event {
         Event::Quiet => keys.extend_from_slice(&[]),
-        Event::CreateLock(lock) => keys.extend_from_slice(&[Key::Lock(lock), Key::Creation]),
-        Event::Acquire(lock) => keys.extend_from_slice(&[Key::Lock(lock)]),
-        Event::Release(lock) => keys.extend_from_slice(&[Key::Lock(lock)]),
+        Event::CreateLock(lock) => {
+            keys.extend_from_slice(&[key_of_lock(storing, lock), Key::Creation])
+        }
+        Event::Acquire(lock) => keys.extend_from_slice(&[key_of_lock(storing, lock)]),
+        Event::Release(lock) => keys.extend_from_slice(&[key_of_lock(storing, lock)]),
         Event::Spawn(thread) => { keys.extend_from_slice(&[Key::Spawning, Key::Starts(thread)]) }
         Event::Join(thread) => keys.extend_from_slice(&[Key::Joins(thread)]),
     }
@@ -96,9 +135,11 @@ fn add_event_asked(keys: &mut Vec<Key>, event: Event) -> Result<(), OutOfMemory>
 {
     match event {
         Event::Quiet => keys.extend_from_slice(&[]),
-        Event::CreateLock(lock) => keys.extend_from_slice(&[Key::Lock(lock), Key::Creation]),
-        Event::Acquire(lock) => keys.extend_from_slice(&[Key::Lock(lock)]),
-        Event::Release(lock) => keys.extend_from_slice(&[Key::Lock(lock)]),
+        Event::CreateLock(lock) => {
+            keys.extend_from_slice(&[Key::Lock(lock), Key::Storing(lock), Key::Creation])
+        }
+        Event::Acquire(lock) => keys.extend_from_slice(&[Key::Lock(lock), Key::Storing(lock)]),
+        Event::Release(lock) => keys.extend_from_slice(&[Key::Lock(lock), Key::Storing(lock)]),
         Event::Spawn(thread) => keys.extend_from_slice(&[Key::Spawning, Key::Joins(thread)]),
         Event::Join(thread) => keys.extend_from_slice(&[Key::Starts(thread)]),
     }
@@ -131,7 +172,7 @@ pub(crate) fn noted_by(alloc: Global, step: &Footprint) -> Result<Vec<Key>, OutO
     ensures { IfOk result (λ v. v.items ≡ keys_noted step.now) }
 {
     let mut keys = Vec::new(alloc);
-    add_event_noted(&mut keys, step.event())?;
+    add_event_noted(&mut keys, stores(step), step.event())?;
     add_end_noted(&mut keys, step.ended(), step.thread())?;
     add_made(&mut keys, step.allocated())?;
     add_touched(&mut keys, step.touched())?;
@@ -250,7 +291,7 @@ pub(crate) fn asks(key: Key, step: &Footprint) -> bool
     ensures { result ≡ does_ask step.now key }
 {
     match key {
-        Key::Lock(lock) => asks_lock(lock, step.event()),
+        Key::Lock(lock) | Key::Storing(lock) => asks_lock(lock, step.event()),
         Key::Creation => asks_creation(step.event()),
         Key::Spawning => asks_spawning(step.event()),
         Key::Starts(thread) => asks_start(thread, step.event()),

@@ -2,10 +2,11 @@
 
 ghost use Rattle.std.specs.Prelude.{◌≡◌, ◌≢◌, ℕ, ◌<◌, IsFalse, IsTrue, false, length, slice_index};
 ghost use Rattle.mr_event.specs.Order.{thread_at};
+ghost use Rattle.mr_clocks.specs.Clocks.{IsPart};
 ghost use Rattle.mr_clocks.specs.Rows.{ArePlacesKnown, AreRows, IsPlaceKnown, IsPlaceSeen, row_at};
 
 use crate::clock::Clock;
-use crate::rows::{Link, Row, is_known, may_lead};
+use crate::rows::{Link, Row, is_known, may_lead, names_thread_of};
 use mr_event::Footprint;
 
 /// How a clock stands to rows that a step asks: whether it knows each step there from which an edge leads to that step,
@@ -35,7 +36,7 @@ pub(crate) fn no_standing() -> Standing
     }
 }
 
-/// Whether a clock knows the latest step of the row at a place, or there is none.
+/// Whether a clock knows the latest step of the row at a place, or it is of j's thread, or there is none.
 pub(crate) fn is_latest_known(
     run: &[Footprint],
     clock: &Clock,
@@ -46,9 +47,10 @@ pub(crate) fn is_latest_known(
 ) -> bool
     requires within { j < length run.now }
     requires rows { AreRows run.now j rows.now links.now }
-    ensures known { IsTrue result → IsPlaceKnown rows.now links.now x clock.now }
+    ensures known { IsTrue result → IsPlaceKnown run.now rows.now links.now x clock.now j }
     ensures inside { IsFalse result → x < length rows.now }
     ensures some { IsFalse result → 0 < (row_at rows.now x).last }
+    ensures apart { IsFalse result → (row_at rows.now x).thread ≢ thread_at run.now j }
 {
     if x >= rows.len() {
         return true;
@@ -58,7 +60,10 @@ pub(crate) fn is_latest_known(
         return true;
     }
     let link = links[row.last as usize - 1];
-    is_known(clock, row, link)
+    if is_known(clock, row, link) {
+        return true;
+    }
+    names_thread_of(run, row, j)
 }
 
 /// The same of the rows at some places.
@@ -72,7 +77,7 @@ pub(crate) fn are_latest_known(
 ) -> bool
     requires within { j < length run.now }
     requires rows { AreRows run.now j rows.now links.now }
-    ensures { IsTrue result → ArePlacesKnown rows.now links.now found.now clock.now }
+    ensures { IsTrue result → ArePlacesKnown run.now rows.now links.now found.now clock.now j }
 {
     for y in 0..found.len() {
         if !is_latest_known(run, clock, rows, links, found[y], j) {
@@ -93,9 +98,9 @@ pub(crate) fn is_place_known(
 ) -> bool
     requires within { j < length run.now }
     requires rows { AreRows run.now j rows.now links.now }
+    requires part { IsPart run.now clock.now j }
     ensures seen { IsTrue result → IsPlaceSeen run.now rows.now links.now x clock.now j }
     ensures inside { IsFalse result → x < length rows.now }
-    ensures apart { IsFalse result → (row_at rows.now x).thread ≢ thread_at run.now j }
 {
     if is_latest_known(run, clock, rows, links, x, j) {
         return true;
@@ -115,8 +120,9 @@ fn standing_at(
 ) -> Standing
     requires within { j < length run.now }
     requires rows { AreRows run.now j rows.now links.now }
+    requires part { IsPart run.now clock.now j }
     ensures seen { IsTrue result.keeps → IsPlaceSeen run.now rows.now links.now x clock.now j }
-    ensures known { IsTrue result.settled → IsPlaceKnown rows.now links.now x clock.now }
+    ensures known { IsTrue result.settled → IsPlaceKnown run.now rows.now links.now x clock.now j }
 {
     if is_latest_known(run, clock, rows, links, x, j) {
         return Standing {
@@ -142,9 +148,10 @@ pub(crate) fn standing_to(
 ) -> Standing
     requires within { j < length run.now }
     requires rows { AreRows run.now j rows.now links.now }
+    requires part { IsPart run.now clock.now j }
     ensures seen { IsTrue result.keeps → (y : ℕ) → y < length found.now
         → IsPlaceSeen run.now rows.now links.now (slice_index found.now y) clock.now j }
-    ensures known { IsTrue result.settled → ArePlacesKnown rows.now links.now found.now clock.now }
+    ensures known { IsTrue result.settled → ArePlacesKnown run.now rows.now links.now found.now clock.now j }
 {
     let mut settled = true;
     for y in 0..found.len() {

@@ -3,7 +3,8 @@
 //!
 //! - [`Analysis`]: what is known of a run. Contracts see it as its clocks, for each step the number of its clock, for
 //!   each thread its latest step, the rows of the steps with their links, skips, and for each thread the steps that
-//!   woke it: a row has for a key and a thread the steps that are noted under the key.
+//!   woke it: a row has for a key and a thread its steps that are noted under the key. For the steps that act on a lock
+//!   and store nothing there is one row of all threads.
 //!
 //! Definitions: `specs/Clocks.antt` says what the clock of a step is, `Keys` under which keys a step is noted and which
 //! it asks, `Rows` and `Marks` how the steps of a key are kept and found, `Spans` how a step with many accesses finds

@@ -111,7 +111,7 @@ fn walk_place(
     ensures kept { OnOk result ((m : ℕ) → IsUnder run.now clock.old m → IsUnder run.now clock.new m) }
     ensures same { IfOk result (λ w. IsFalse w.changed → clock.new ≡ clock.old) }
     ensures left { OnOk result (AreSkips run.now j links.now left.new.items) }
-    ensures known { IfOk result (λ w. IsTrue w.known → IsPlaceKnown rows.now links.now x clock.new) }
+    ensures known { IfOk result (λ w. IsTrue w.known → IsPlaceKnown run.now rows.now links.now x clock.new j) }
 {
     if is_latest_known(run, &*clock, rows, links, x, j) {
         return Ok(Walked {
@@ -239,6 +239,7 @@ fn unknown_rows(
 ) -> Result<Vec<Latest>, OutOfMemory>
     requires within { j < length run.now }
     requires rows { AreRows run.now j rows.now links.now }
+    requires part { IsPart run.now clock.now j }
 {
     let mut unknown = Vec::new(alloc);
     for y in 0..found.len() {
@@ -369,7 +370,7 @@ fn walk_next(
     ensures kept { OnOk result ((m : ℕ) → IsUnder run.now clock.old m → IsUnder run.now clock.new m) }
     ensures same { IfOk result (λ w. IsFalse w.changed → clock.new ≡ clock.old) }
     ensures left { OnOk result (AreSkips run.now j links.now left.new.items) }
-    ensures known { IfOk result (λ w. IsTrue w.known → IsPlaceKnown rows.now links.now x clock.new) }
+    ensures known { IfOk result (λ w. IsTrue w.known → IsPlaceKnown run.now rows.now links.now x clock.new j) }
 {
     if is_latest_known(run, &*clock, rows, links, x, j) {
         return Ok(Walked {
@@ -432,7 +433,7 @@ fn is_done(
 ) -> bool
     requires within { j < length run.now }
     requires rows { AreRows run.now j rows.now links.now }
-    ensures { IsTrue result → ArePlacesKnown rows.now links.now found.now clock.now }
+    ensures { IsTrue result → ArePlacesKnown run.now rows.now links.now found.now clock.now j }
 {
     changed && are_latest_known(run, clock, rows, links, found, j)
 }

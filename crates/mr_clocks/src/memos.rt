@@ -1,13 +1,13 @@
 //! Memos: the rows that earlier steps asked, and those in which they are noted. A step that does the same as one of
 //! them needs no search: of the rows that came since it looks at each, if they are few.
 
-ghost use Rattle.std.specs.Prelude.{◌≡◌, ◌≢◌, ℕ, ◌<◌, ◌≤◌, List, IfOk, IsTrue, OnOk, length, vec_len};
+ghost use Rattle.std.specs.Prelude.{◌≡◌, ℕ, ◌<◌, ◌≤◌, List, IfOk, IsTrue, OnOk, length, vec_len};
 ghost use Rattle.mr_event.specs.Likeness.{DoTheSame};
 ghost use Rattle.mr_clocks.specs.declared.rows.Row.{Row};
 ghost use Rattle.mr_clocks.specs.Keys.{asks as does_ask};
 ghost use Rattle.mr_clocks.specs.Marks.{AreMarked};
 ghost use Rattle.mr_clocks.specs.Memos.{AreMemos, IsMemo, IsMemoOf, memo_at};
-ghost use Rattle.mr_clocks.specs.Rows.{IsGrown, IsListed, row_at};
+ghost use Rattle.mr_clocks.specs.Rows.{IsGrown, IsListed, IsOwn, row_at};
 
 use crate::hints::{Slots, no_slots, slots_of};
 use crate::index::{Index, add_asked, places_for, rows_asked};
@@ -27,8 +27,8 @@ const FEW: usize = 512;
 // How many rows may have come since a memo was made, so that it looks at the newer ones alone.
 const NEAR: usize = 256;
 
-/// A step, the places of the rows of other threads that it asks, of those in which it is noted, and of its hints. The
-/// stamp is one more than the number of rows that there were, or 0 where there is no step.
+/// A step, the places of the rows that it asks but those of its own thread alone, of those in which it is noted, and of
+/// its hints. The stamp is one more than the number of rows that there were, or 0 where there is no step.
 #[derive(Drop)]
 pub(crate) struct Memo {
     step: Footprint,
@@ -65,7 +65,7 @@ impl Memo {
         }
     }
 
-    /// The places of all rows of other threads that the step asks, and maybe of others.
+    /// The places of all rows that the step asks but those of its own thread alone, and maybe of others.
     pub(crate) fn asked(&self) -> &[usize]
         ensures { result.now ≡ self.now.2 }
     {
@@ -183,7 +183,8 @@ fn fill(alloc: Global, memos: &mut Vec<Memo>) -> Result<(), OutOfMemory>
     Ok(())
 }
 
-// Appends the places, from a number on, at which there are rows of other threads whose keys the step asks.
+// Appends the places, from a number on, at which there are rows whose keys the step asks, but those of its own thread
+// alone.
 fn add_others(
     others: &mut Vec<usize>,
     rows: &[Row],
@@ -191,8 +192,9 @@ fn add_others(
     step: &Footprint,
 ) -> Result<(), OutOfMemory>
     ensures kept { (z : ℕ) → IsListed others.old.items z → IsListed others.new.items z }
-    ensures here { OnOk result ((x : ℕ) → from ≤ x → x < length rows.now → (row_at rows.now x).thread ≢ step.now.thread
-        → IsTrue (does_ask step.now (row_at rows.now x).key) → IsListed others.new.items x) }
+    ensures here { OnOk result ((x : ℕ) → from ≤ x → x < length rows.now
+        → (IsOwn (row_at rows.now x) step.now.thread → ⊥) → IsTrue (does_ask step.now (row_at rows.now x).key)
+        → IsListed others.new.items x) }
 {
     for x in from..rows.len() {
         add_asked(others, rows, x, step, None)?;

@@ -1,4 +1,5 @@
-//! Rows: for a key and a thread the steps of the thread that are noted under the key, the latest first.
+//! Rows: for a key and a thread the steps of the thread that are noted under the key, the latest first, and for a
+//! shared key those of all threads.
 
 ghost use Rattle.std.specs.Prelude.{◌≡◌, ◌≢◌, ℕ, ◌+◌, ◌<◌, ◌≤◌, ◌^◌, ◌↔◌, List, IfOk, IsFalse, IsTrue, OnOk, length, slice_index, vec_capacity, vec_len, true, false};
 ghost use Rattle.mr_event.specs.Footprint.{Footprint};
@@ -6,24 +7,26 @@ ghost use Rattle.mr_event.specs.Order.{step_at, thread_at};
 ghost use Rattle.mr_clocks.specs.declared.rows.Link.{Link};
 ghost use Rattle.mr_clocks.specs.Clocks.{AreClocks, IsClockOf, IsPart, IsUnder};
 ghost use Rattle.mr_clocks.specs.Keys.{asks, key_races};
-ghost use Rattle.mr_clocks.specs.Rows.{AreLinks, AreLonger, ArePlaces, AreRows, HaveKeysOf, IsBelow, IsNoted, IsPlaceBeyond, IsPlaceSeen, IsRow, IsRowSeen, row_at};
+ghost use Rattle.mr_clocks.specs.Rows.{AreLinks, AreLonger, ArePlaces, AreRows, HaveKeysOf, IsBelow, IsNoted, IsOwn, IsPlaceBeyond, IsPlaceSeen, IsRow, IsRowSeen, row_at};
 ghost use Rattle.mr_clocks.specs.Skips.{AreSkips, IsSkip};
 ghost use Rattle.mr_clocks.specs.Tracked.{IsNext, IsPartnerOr};
 
-use crate::analysis::{is_under, lent};
+use crate::analysis::is_under;
 use crate::clock::Clock;
-use crate::keys::{Key, may_bind, may_race};
+use crate::following::follow_edge;
+use crate::keys::{Key, is_shared, may_bind, may_race};
 use crate::known::{is_latest_known, is_place_known};
 use crate::order::edge;
 use crate::skips::{Skip, slot_of};
 use crate::walks::{Walk, no_walk, pass};
-use mr_event::{Footprint, OutOfMemory};
+use mr_event::{Footprint, OutOfMemory, thread_at};
 use std::alloc::Global;
 
 // How many links there can be, which have numbers of 32 bits.
 const MOST_LINKS: usize = 4_294_967_295;
 
-/// The row of a key and a thread. `last` is one more than the place of its latest link, or 0.
+/// The row of a key and a thread: that of its latest step where the key is shared. `last` is one more than the place of
+/// its latest link, or 0.
 #[derive(Clone, Copy, Debug, PartialEq, Eq)]
 pub struct Row {
     pub key: Key,
@@ -50,15 +53,52 @@ pub(crate) fn reserve_links(links: &mut Vec<Link>, more: usize) -> Result<(), Ou
     links.reserve(more)
 }
 
-/// Whether a clock knows the step that a link of a row keeps.
+/// Whether all steps of a row are of a thread.
+pub(crate) fn is_own(row: Row, thread: u32) -> bool
+    ensures { IsTrue result → IsOwn row thread }
+{
+    row.thread == thread && !is_shared(row.key)
+}
+
+/// Whether a row names the thread of step `j`.
+pub(crate) fn names_thread_of(run: &[Footprint], row: Row, j: usize) -> bool
+    requires { j < length run.now }
+    ensures { IsTrue result ↔ row.thread ≡ thread_at run.now j }
+{
+    row.thread == thread_at(run, j)
+}
+
+/// Whether a clock knows the step that the latest link of a row keeps.
 pub(crate) fn is_known(clock: &Clock, row: Row, link: Link) -> bool
     ensures { IsTrue result ↔ link.step < slice_index clock.now row.thread }
 {
     link.step < clock.at(row.thread)
 }
 
-// Follows the latest step of a row from which an edge leads to step `j`, unless the clock knows it. Those behind it
-// race with `j`, and those before it are known with it.
+// Whether two steps are of one thread.
+fn are_of_one_thread(run: &[Footprint], i: usize, j: usize) -> bool
+    requires first { i < length run.now }
+    requires second { j < length run.now }
+    ensures { IsTrue result ↔ thread_at run.now i ≡ thread_at run.now j }
+{
+    thread_at(run, i) == thread_at(run, j)
+}
+
+// Whether step `i` is of j's thread or lies under the clock.
+fn is_own_or_under(run: &[Footprint], clock: &Clock, i: usize, j: usize) -> bool
+    requires first { i < length run.now }
+    requires second { j < length run.now }
+    ensures known { IsTrue result → thread_at run.now i ≢ thread_at run.now j → IsUnder run.now clock.now i }
+    ensures apart { IsFalse result → thread_at run.now i ≢ thread_at run.now j }
+{
+    if are_of_one_thread(run, i, j) {
+        return true;
+    }
+    is_under(run, clock, i)
+}
+
+// Follows the latest step of a row from which an edge leads to step `j`, unless it is of j's thread or the clock knows
+// it. Those behind it race with `j`, and those before it are known with it.
 fn follow_row(
     alloc: Global,
     run: &[Footprint],
@@ -78,7 +118,6 @@ fn follow_row(
     requires links { AreLinks links.now }
     requires skips { AreSkips run.now j links.now skips.now }
     requires row { IsRow run.now j links.now row }
-    requires apart { row.thread ≢ thread_at run.now j }
     requires next { IsNext run.now j next }
     requires part { IsPart run.now clock.old j }
     ensures part { OnOk result (IsPart run.now clock.new j) }
@@ -97,11 +136,11 @@ fn follow_row(
     while walk.end > 0 {
         let link = links[walk.end as usize - 1];
         let i = link.step as usize;
-        if is_known(clock, row, link) {
+        if is_own_or_under(run, &*clock, i, j) {
             return Ok(walk);
         }
         if edge(run, i, j, next) {
-            clock.follow(lent(clocks, numbers, i), row.thread, link.step)?;
+            follow_edge(run, clocks, numbers, i, clock, j)?;
             walk.changed = true;
             return Ok(walk);
         }
@@ -110,7 +149,7 @@ fn follow_row(
     Ok(walk)
 }
 
-/// The same of the row at a place, if there is one, of another thread, whose key step `j` asks and doesn't race with.
+/// The same of the row at a place, if there is one, whose key step `j` asks and doesn't race with.
 pub(crate) fn follow_place(
     alloc: Global,
     run: &[Footprint],
@@ -171,29 +210,26 @@ pub(crate) fn keep_walk(
     Ok(())
 }
 
-/// Whether an edge to step `j` may come from a step of a row: not where the row is of j's own thread, and not where the
-/// key allows none.
+/// Whether an edge to step `j` may come from a step of a row of another thread: not where the key allows none.
 #[tactic(auto, using(mr_event::proofs::Read::step_read))]
 pub(crate) fn may_lead(run: &[Footprint], row: Row, j: usize) -> bool
     requires { j < length run.now }
-    ensures apart { IsTrue result → row.thread ≢ thread_at run.now j }
-    ensures asked { row.thread ≢ thread_at run.now j → IsTrue (asks (step_at run.now j) row.key)
-        → key_races row.key (step_at run.now j) ≡ false → IsTrue result }
+    ensures { IsTrue (asks (step_at run.now j) row.key) → key_races row.key (step_at run.now j) ≡ false
+        → IsTrue result }
 {
     let step = &run[j];
-    row.thread != step.thread() && may_bind(row.key, step)
+    may_bind(row.key, step)
 }
 
-// Whether the row is of another thread than step `j`, which races with the range that its key names.
+// Whether step `j` races with the range that the key of a row names.
 #[tactic(auto, using(mr_event::proofs::Read::step_read))]
 fn may_rival(run: &[Footprint], row: Row, j: usize) -> bool
     requires { j < length run.now }
-    ensures apart { IsTrue result → row.thread ≢ thread_at run.now j }
     ensures raced { IsTrue result → key_races row.key (step_at run.now j) ≡ true }
-    ensures all { row.thread ≢ thread_at run.now j → key_races row.key (step_at run.now j) ≡ true → IsTrue result }
+    ensures all { key_races row.key (step_at run.now j) ≡ true → IsTrue result }
 {
     let step = &run[j];
-    row.thread != step.thread() && may_race(row.key, step)
+    may_race(row.key, step)
 }
 
 /// The number, or one more than the latest step of the row at a place, where that is more and a partner of step `j`.
@@ -247,14 +283,14 @@ fn below(links: &[Link], last: u32, j: usize) -> u32
     }
 }
 
-// Notes step `j` in the row at a place.
-fn note(rows: &mut Vec<Row>, links: &mut Vec<Link>, x: usize, j: usize)
+// Notes step `j` of a thread in the row at a place.
+fn note(rows: &mut Vec<Row>, links: &mut Vec<Link>, x: usize, thread: u32, j: usize)
     requires small { j < 2 ^ 32 }
     requires inside { x < length rows.old.items }
     requires last { (row_at rows.old.items x).last ≤ length links.old.items }
     requires room { vec_len links.old < vec_capacity links.old }
     requires few { vec_len links.old + 1 < 2 ^ 32 }
-    ensures noted { IsNoted rows.old.items links.old.items x j rows.new.items links.new.items }
+    ensures noted { IsNoted rows.old.items links.old.items x j thread rows.new.items links.new.items }
     ensures one { vec_len links.new ≡ vec_len links.old + 1 }
     ensures room { vec_capacity links.new ≡ vec_capacity links.old }
 {
@@ -264,6 +300,7 @@ fn note(rows: &mut Vec<Row>, links: &mut Vec<Link>, x: usize, j: usize)
         step: j as u32,
         before,
     });
+    row.thread = thread;
     row.last = links.len() as u32;
 }
 
@@ -285,7 +322,8 @@ pub(crate) fn note_all(
     ensures keys { HaveKeysOf rows.old.items rows.new.items }
     ensures longer { AreLonger links.old.items links.new.items }
 {
+    let thread = thread_at(run, j);
     for y in 0..places.len() {
-        note(rows, links, places[y], j);
+        note(rows, links, places[y], thread, j);
     }
 }

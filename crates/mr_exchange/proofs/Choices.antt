@@ -1,6 +1,7 @@
 -- The two choices of steps that serve as a witness.
-use Rattle.mr_exchange.proofs.Common.{◌≡◌, ℕ, ◌<◌, List, true, refl, subst, inl, inr, arith, ℕ_discrete, not, both_ways, eq-eqb, ne_eqb, eqb-true, cases_Bool, not-true, and_parts, and_from, or_left, or_right, Footprint, HappensBefore, RacePair, chain, HappensBefore-before, IsFirstPair, Selects, short_keeps}
+use Rattle.mr_exchange.proofs.Common.{◌≡◌, ℕ, ◌<◌, List, true, refl, subst, inl, inr, arith, ℕ_discrete, not, both_ways, eq-eqb, ne_eqb, eqb-true, cases_Bool, not-true, and_parts, and_from, or_left, or_right, Footprint, HappensBefore, RacePair, chain, HappensBefore-before, Selects, short_keeps}
 use Rattle.std.proofs.lemmas.Bool.{or_cases}
+use Rattle.mr_event.specs.Order.{IsGreatestPartner}
 use Rattle.mr_event.specs.Predicted.{happens_before}
 use Rattle.mr_event.proofs.Tests.{happens_before_is, race_pair_is, any_range, any_range_at, not_false}
 
@@ -15,7 +16,7 @@ after_not run i k n =
 not_after : (run : List Footprint) (i k : ℕ) → not (happens_before run i k) ≡ true → HappensBefore run i k → ⊥
 not_after run i k e h = both_ways _ (not-true _ e) ((happens_before_is run i k).1 h)
 
-pub kept_selects : (run : List Footprint) (i j : ℕ) → IsFirstPair run i j → Selects run i j (λ k. not (happens_before run i k))
+pub kept_selects : (run : List Footprint) (i j : ℕ) → IsGreatestPartner run i j → Selects run i j (λ k. not (happens_before run i k))
 kept_selects run i j pair =
     record {
       first = after_not run i i (λ h. absurd (let lt = HappensBefore-before h in omega arith));
@@ -80,7 +81,7 @@ reason_closed run i j a b (is_rival r) h =
     ]
 reason_closed run i j a b (before_rival m r ne g) h = before_rival m r ne (chain h g)
 
-reason_movable : (run : List Footprint) (i j k : ℕ) → IsFirstPair run i j → k < j → Reason run i j k → HappensBefore run i k → ⊥
+reason_movable : (run : List Footprint) (i j k : ℕ) → IsGreatestPartner run i j → k < j → Reason run i j k → HappensBefore run i k → ⊥
 reason_movable run i j k pair lt (is_first e) h = let low = HappensBefore-before h in omega arith
 reason_movable run i j k pair lt (is_second e) h = omega arith
 reason_movable run i j k pair lt (before_first g) h = let low = HappensBefore-before h in let high = HappensBefore-before g in omega arith
@@ -88,7 +89,7 @@ reason_movable run i j k pair lt (before_second g) h = pair.pair.unordered (chai
 reason_movable run i j k pair lt (is_rival r) h = pair.greatest k (HappensBefore-before h) r
 reason_movable run i j k pair lt (before_rival m r ne g) h = pair.greatest m (HappensBefore-before (chain h g)) r
 
-pub short_selects : (run : List Footprint) (i j : ℕ) → IsFirstPair run i j → Selects run i j (short_keeps run i j)
+pub short_selects : (run : List Footprint) (i j : ℕ) → IsGreatestPartner run i j → Selects run i j (short_keeps run i j)
 short_selects run i j pair =
     record {
       first = for_reason run i j i (is_first refl);

@@ -51,8 +51,10 @@
 //! `mr_event`, and has no code. `specs/Trace.antt` says what such a machine is, what the first pair of a run is, and which choices of steps
 //! serve as a witness for it; `specs/Shown.antt` what a witness shows. Proved as clauses of the laws:
 //!
-//! - [`first_of_predicted`]: the head of the predicted races is the first pair; where the list is empty there is none.
-//! - [`witness_choices`]: the kept steps of a first pair are such a choice, and so are the fewer ones of the short witness.
+//! - [`first_of_predicted`]: a predicted race is a step with its greatest partner, and the head of the list is the
+//!   first pair; where the list is empty there is none.
+//! - [`witness_choices`]: the kept steps of a predicted race are such a choice, and so are the fewer ones of the
+//!   short witness.
 //! - [`calm_before_the_pair`]: ordered by such a choice, no step but the last is reported behind its neighbour, the last is,
 //!   and the steps of each thread are a prefix of its recorded ones.
 //! - [`rearranged_has_none`]: a rearrangement of a run without a race pair has none.

@@ -2,26 +2,32 @@
 //! `specs/Trace.antt` and `specs/Shown.antt`, and no other code.
 
 ghost use Rattle.std.specs.Prelude.{◌≡◌, ◌∷◌, ◌++◌, [], ℕ, ◌+◌, ◌<◌, List, Bool, map, length, not, ◌&&◌, ◌==◌, filter};
+ghost use Rattle.std.specs.Prelude.{Contains};
 ghost use Rattle.mr_event.specs.Footprint.{Footprint};
 ghost use Rattle.mr_event.specs.declared.footprint.Pair.{Pair};
 ghost use Rattle.mr_event.specs.Kept.{selected};
-ghost use Rattle.mr_event.specs.Order.{HasNoRace, IsRearrangement, places, step_at};
+ghost use Rattle.mr_event.specs.Order.{HasNoRace, IsGreatestPartner, IsRearrangement, places, step_at};
 ghost use Rattle.mr_event.specs.Predicted.{happens_before, predicted};
 ghost use Rattle.mr_exchange.specs.Shown.{AreAdjacent, steps_of};
 ghost use Rattle.mr_exchange.specs.Trace.{IsAmong, IsFirstPair, IsPlacing, IsReported, Selects, short_keeps};
 
-/// The head of the predicted races is the first pair, and where none is predicted no step has a partner.
+/// A predicted race is a step of the run with its greatest partner, the head of the predicted races is the first pair,
+/// which is such a race, and where none is predicted no step has a partner.
 pub fn first_of_predicted()
+    ensures partner { (run : List Footprint) (pair : Pair) → Contains (predicted run) pair
+        → IsGreatestPartner run pair.first pair.second }
     ensures first { (run : List Footprint) (pair : Pair) (rest : List Pair) → predicted run ≡ pair ∷ rest
         → IsFirstPair run pair.first pair.second }
     ensures none { (run : List Footprint) → predicted run ≡ [] → HasNoRace run }
 {}
 
-/// Both witnesses are choices of steps that can be run without the others, with the pair at their end.
+/// For each predicted race both witnesses are choices of steps that can be run without the others, with the pair at
+/// their end.
 pub fn witness_choices()
-    ensures kept { (run : List Footprint) (i j : ℕ) → IsFirstPair run i j
+    ensures kept { (run : List Footprint) (i j : ℕ) → IsGreatestPartner run i j
         → Selects run i j (λ k. not (happens_before run i k)) }
-    ensures short { (run : List Footprint) (i j : ℕ) → IsFirstPair run i j → Selects run i j (short_keeps run i j) }
+    ensures short { (run : List Footprint) (i j : ℕ) → IsGreatestPartner run i j
+        → Selects run i j (short_keeps run i j) }
 {}
 
 /// In the order of a choice no step but the last is reported behind its neighbour, the last is, and each thread takes the

@@ -30,6 +30,10 @@ abbrev pub offset_text : ℕ → ℕ → List ℕ
 offset_text start addr =
     if nat_lt addr start then codes "-" ++ decimal (start - addr) else decimal (addr - start)
 
+-- the same, and the address itself, by which a step was aligned or not: `4, address 4100`
+abbrev pub where_text : ℕ → ℕ → List ℕ
+where_text start addr = offset_text start addr ++ codes ", address " ++ decimal addr
+
 -- the number of the first step that freed an allocation, counted on from a number
 abbrev pub freed_from : ℕ → AllocId → List Footprint → Option ℕ
 freed_from k id [] = None
@@ -54,13 +58,13 @@ owner_word s row =
     name_text s.program None 0 row.name ++ codes ", which has " ++ bytes_text (held_bytes row row.name)
     ++ freed_text (freed_from 0 row.id s.feet)
 
--- the allocation, and where in it: `: load of 4 bytes at byte 4`
+-- the allocation, and where in it: `: load of 4 bytes at byte 4, address 4100`
 abbrev pub spoken_text : Seen → Reached → Option Allocation → List ℕ
 spoken_text s r None =
     codes "no allocation: " ++ doing_word r.doing ++ bytes_text r.len ++ codes " at address " ++ decimal r.pointer.addr
 spoken_text s r (Some row) =
     owner_word s row ++ codes ": " ++ doing_word r.doing ++ bytes_text r.len ++ codes " at byte "
-    ++ offset_text row.start r.pointer.addr
+    ++ where_text row.start r.pointer.addr
 
 -- the allocation that a pointer may reach, where it is one of the run
 abbrev pub owner_of : Seen → Reached → Option Allocation

@@ -3,7 +3,7 @@ ghost use Rattle.std.specs.Prelude.{◌≡◌, ◌++◌, OnOk};
 ghost use Rattle.mr_listing.specs.Accesses.{bytes_text};
 ghost use Rattle.mr_listing.specs.Seen.{seen};
 ghost use Rattle.mr_listing.specs.Spoken.{doing_word, freed_from, freed_text, freeing_text, held_bytes};
-ghost use Rattle.mr_listing.specs.Spoken.{offset_text, owner_of, owner_word, spoken_line, spoken_text};
+ghost use Rattle.mr_listing.specs.Spoken.{offset_text, owner_of, owner_word, spoken_line, spoken_text, where_text};
 
 use crate::OutOfMemory;
 use crate::accesses::push_bytes;
@@ -38,6 +38,15 @@ fn push_offset(out: &mut Vec<u8>, start: u64, addr: u64) -> Result<(), OutOfMemo
     } else {
         push_number(out, addr - start)
     }
+}
+
+// Appends the same, and the address.
+fn push_where(out: &mut Vec<u8>, start: u64, addr: u64) -> Result<(), OutOfMemory>
+    ensures { OnOk result (out.new.items ≡ out.old.items ++ where_text start addr) }
+{
+    push_offset(out, start, addr)?;
+    out.extend_from_slice(b", address ")?;
+    push_number(out, addr)
 }
 
 // The number of the first step that freed an allocation, counted from 0.
@@ -132,7 +141,7 @@ fn push_spoken_text(
             out.extend_from_slice(b": ")?;
             push_doing(out, reached)?;
             out.extend_from_slice(b" at byte ")?;
-            push_offset(out, row.start, reached.pointer.addr)?;
+            push_where(out, row.start, reached.pointer.addr)?;
             Ok(())
         }
     }

@@ -10,7 +10,7 @@ use Rattle.mr_svg.specs.declared.shape.Shape.{Shape}
 use Rattle.mr_svg.specs.declared.shape.Sign.{Sign}
 use Rattle.mr_picture.specs.declared.steps.Part.{Part}
 use Rattle.mr_picture.specs.Column.{column_of, is_of_race, kept_shape, number_place}
-use Rattle.mr_picture.specs.Ends.{part_text, title_text}
+use Rattle.mr_picture.specs.Ends.{line_room, names_mark, names_marks, part_text, title_text}
 use Rattle.mr_picture.specs.Grid.{column_width, column_x, height, lane_x, legend_y, place_of, tail_y, text_x, width}
 use Rattle.mr_picture.specs.Inside.{IsInside, IsLineInside, IsPointInside, IsRoundInside, IsShapeInside}
 use Rattle.mr_picture.specs.Lanes.{row_or, short_name}
@@ -400,11 +400,27 @@ line_in s y text above below =
     let few = cut_short 70 text in
     (omega (arith, fits, behind, few), record { above = above; below = below })
 
+names_in : (s : Scene) → All (IsIn s) (names_marks s)
+names_in s = by (length s.sketch.names == 0)
+  where
+    inside : IsIn s (names_mark s)
+    inside =
+        let fits = wide_enough s in
+        let deep = high_enough s in
+        let few = cut_short (line_room s) s.sketch.names in
+        (omega (arith, fits, few), record { above = omega arith; below = omega (arith, deep) })
+
+    by : (b : Bool) → All (IsIn s) (if b then [] else names_mark s ∷ [])
+    by true = All-nil (IsIn s)
+    by false = All-cons (IsIn s) (names_mark s) [] inside (All-nil (IsIn s))
+
 heads_in : (s : Scene) → All (IsIn s) (head_marks s)
 heads_in s =
     let deep = high_enough s in
-    all_two (IsIn s) (title_mark s) (part_mark s) (line_in s 30 (title_text s) (omega arith) (omega (arith, deep)))
-    (line_in s 54 (part_text s) (omega arith) (omega (arith, deep)))
+    All-append (IsIn s) (title_mark s ∷ part_mark s ∷ []) (names_marks s)
+    (all_two (IsIn s) (title_mark s) (part_mark s) (line_in s 30 (title_text s) (omega arith) (omega (arith, deep)))
+    (line_in s 54 (part_text s) (omega arith) (omega (arith, deep))))
+    (names_in s)
 
 tail_below : (s : Scene) (n : ℕ) → n < tail_count s → tail_y s n + 8 ≤ height s
 tail_below s n lt = omega (arith, lt)

@@ -6,6 +6,7 @@ pub mod InsideLaws
 pub mod LinkLaws
 pub mod Marks
 pub mod Members
+pub mod NameLaws
 pub mod Room
 pub mod RowLaws
 pub mod SceneLaws

@@ -1,8 +1,9 @@
 -- What is drawn of the run of a program.
-use Rattle.std.specs.Prelude.{ℕ, Bool, List, [], map, Option, None, Some}
+use Rattle.std.specs.Prelude.{◌≡◌, ℕ, Bool, List, [], ◌++◌, codes, decimal, flat_map, map, Option, None, Some}
 use Rattle.std.specs.List.{filter}
 use Rattle.mr_labels.specs.declared.step.Stand.{Stand}
 use Rattle.mr_labels.specs.declared.step.ToldStep.{ToldStep}
+use Rattle.mr_labels.specs.Words.{function_word}
 use Rattle.mr_listing.specs.Seen.{Seen}
 use Rattle.mr_listing.specs.Spots.{stand_text}
 use Rattle.mr_listing.specs.Steps.{steps_text}
@@ -16,9 +17,30 @@ use Rattle.mr_picture.specs.Span.{is_in}
 abbrev pub tail_of : Seen → List ℕ
 tail_of s = steps_text (record s { steps = [] }) []
 
+-- a thread, behind the one before, with the function with which it began
+abbrev pub name_of : Seen → ℕ → ℕ → List ℕ
+name_of s thread function = codes ", T" ++ decimal thread ++ codes " " ++ function_word s.program function
+
+-- the thread that a step started, if it started one: where it stands behind that step, it has not taken one yet
+abbrev pub started_name : Seen → Option Stand → List ℕ
+started_name s None = []
+started_name s (Some stand) = name_of s stand.thread stand.function
+
+abbrev pub told_name : Seen → ToldStep → List ℕ
+told_name s told = started_name s told.started
+
+-- THE NAMES OF THE THREADS, each with its function: of the main thread, and of those that the told steps started
+abbrev pub names_of : Seen → List ℕ
+names_of s =
+    codes "T0 " ++ function_word s.program s.program.start.0 ++ flat_map (told_name s) s.steps
+
+-- a text that stands in another one
+abbrev pub StandsIn : List ℕ → List ℕ → Type 0
+StandsIn piece text = (before : List ℕ) × (behind : List ℕ) × (text ≡ before ++ piece ++ behind)
+
 -- a run as it is drawn
 abbrev pub sketch_of : Seen → Sketch
-sketch_of s = record { count = s.count; feet = s.feet; races = s.races; tail = tail_of s }
+sketch_of s = record { count = s.count; feet = s.feet; races = s.races; names = names_of s; tail = tail_of s }
 
 -- the thread that stands there
 abbrev pub thread_of : Option Stand → Option ℕ

@@ -1,11 +1,11 @@
 -- What is written above the rows and below them.
-use Rattle.std.specs.Prelude.{ℕ, zero, suc, ◌+◌, ◌-◌, ◌==◌, ◌&&◌, not, if◌then◌else◌, List, [], ◌∷◌, ◌++◌, codes, decimal}
+use Rattle.std.specs.Prelude.{ℕ, zero, suc, ◌+◌, ◌-◌, ◌/◌, ◌==◌, ◌&&◌, not, if◌then◌else◌, List, [], ◌∷◌, ◌++◌, codes, decimal}
 use Rattle.std.specs.Prelude.{drop, length, take}
 use Rattle.std.specs.List.{prefix_len}
 use Rattle.mr_svg.specs.declared.shape.Shape.TheVariants.{Words}
 use Rattle.mr_svg.specs.declared.shape.Sign.TheVariants as sign
 use Rattle.mr_svg.specs.Svg.{Mark}
-use Rattle.mr_picture.specs.Grid.{is_line_end, tail_y}
+use Rattle.mr_picture.specs.Grid.{is_line_end, tail_y, width}
 use Rattle.mr_picture.specs.Scene.{Scene}
 use Rattle.mr_picture.specs.Steps.{mark_of}
 use Rattle.mr_picture.specs.Texts.{cut_at}
@@ -38,8 +38,20 @@ title_mark s = mark_of sign.Title (Words (record { x = 16; y = 30 })) (cut_at 70
 abbrev pub part_mark : Scene → Mark
 part_mark s = mark_of sign.Note (Words (record { x = 16; y = 54 })) (cut_at 70 (part_text s)) (part_text s)
 
+-- so many bytes have room on a line
+abbrev pub line_room : Scene → ℕ
+line_room s = (width s - 40) / 8
+
+-- WHOSE THE LANES ARE, where it is known: each thread with its function, as far as there is room
+abbrev pub names_mark : Scene → Mark
+names_mark s =
+    mark_of sign.Note (Words (record { x = 16; y = 70 })) (cut_at (line_room s) s.sketch.names) s.sketch.names
+
+abbrev pub names_marks : Scene → List Mark
+names_marks s = if length s.sketch.names == 0 then [] else names_mark s ∷ []
+
 abbrev pub head_marks : Scene → List Mark
-head_marks s = title_mark s ∷ part_mark s ∷ []
+head_marks s = title_mark s ∷ part_mark s ∷ names_marks s
 
 -- ---- below: the text of the run's end, line by line
 

@@ -64,17 +64,24 @@ race_in done (Some race) = if holds_race done race then Some race else None
 
 -- ---- the scene
 
--- a run as it is drawn: how many steps it has, the footprints of those that completed, the races that it shows, and the
--- text of its end
+-- a run as it is drawn: how many steps it has, the footprints of those that completed, the races that it shows, the
+-- names of its threads, and the text of its end
 pub record Sketch : Type 0 where
   pub count : ℕ
   pub feet : List Footprint
   pub races : List Pair
+  pub names : List ℕ
   pub tail : List ℕ
 
 -- as it is kept
 abbrev pub sketch_in : KeptSketch → Sketch
-sketch_in k = record { count = k.count; feet = k.feet.now; races = k.races.now; tail = k.tail.now }
+sketch_in k = record {
+  count = k.count;
+  feet = k.feet.now;
+  races = k.races.now;
+  names = k.names.now;
+  tail = k.tail.now;
+}
 
 -- the run; which steps are drawn, and which of them completed; what is drawn of each; their threads; the listed races
 -- whose second step is drawn; and the first listed race, if it is drawn

@@ -10,7 +10,7 @@ ghost use Rattle.mr_picture.specs.Scene.{IsSmall, race_in, scene_in, scene_of, s
 
 use crate::arrows_of::push_arrows;
 use crate::column::push_column;
-use crate::drawn::{drawn_steps, tail_of};
+use crate::drawn::{drawn_steps, names_of, tail_of};
 use crate::ends::{push_heads, push_tail, title_text};
 use crate::grid::{height, width};
 use crate::lanes::push_lanes;
@@ -129,11 +129,13 @@ fn span_text(
     ensures { IfOk result (λ text. text.items ≡ scene_text (span_scene (seen shown.now) span)) }
 {
     let steps = drawn_steps(alloc, shown, span, shown.steps)?;
+    let names = names_of(alloc, shown)?;
     let tail = tail_of(alloc, shown)?;
     let sketch = Sketch {
         count: shown.count,
         feet: shown.feet,
         races: shown.races,
+        names: names.as_slice(),
         tail: tail.as_slice(),
     };
     sketched(alloc, &sketch, order, span, steps.as_slice())

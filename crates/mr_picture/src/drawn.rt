@@ -1,12 +1,14 @@
 //! What is drawn of the run of a program.
-ghost use Rattle.std.specs.Prelude.{◌≡◌, IfOk};
+ghost use Rattle.std.specs.Prelude.{◌≡◌, ◌++◌, IfOk, OnOk, flat_map};
 ghost use Rattle.mr_listing.specs.Seen.{seen};
-ghost use Rattle.mr_picture.specs.Drawn.{drawn_of, drawn_steps, tail_of, thread_of};
+ghost use Rattle.mr_picture.specs.Drawn.{drawn_of, drawn_steps, name_of, names_of, started_name, tail_of, thread_of};
+ghost use Rattle.mr_picture.specs.Drawn.{told_name};
 
 use crate::deeds::push_deeds;
 use crate::scene::{Drawn, is_in};
+use crate::texts::push;
 use crate::{OutOfMemory, Span};
-use mr_labels::{Stand, ToldStep};
+use mr_labels::{Stand, ToldStep, function_word, push_number};
 use mr_listing::{Shown, stand_text, steps};
 use mr_sched::Items;
 use std::alloc::Global;
@@ -30,6 +32,63 @@ pub(crate) fn tail_of(alloc: Global, shown: &Shown<'_>) -> Result<Vec<u8>, OutOf
         rests: shown.rests,
     };
     steps(alloc, &end, &[])
+}
+
+// Appends a thread, with the function with which it began.
+fn push_name(
+    out: &mut Vec<u8>,
+    shown: &Shown<'_>,
+    thread: u32,
+    function: u32,
+) -> Result<(), OutOfMemory>
+    ensures { OnOk result (out.new.items ≡ out.old.items ++ name_of (seen shown.now) thread function) }
+{
+    push(out, ", T")?;
+    push_number(out, thread.into())?;
+    push(out, " ")?;
+    push(out, function_word(shown.program, function))
+}
+
+// Appends the thread that was started, if one was.
+fn push_started(
+    out: &mut Vec<u8>,
+    shown: &Shown<'_>,
+    started: Option<Stand>,
+) -> Result<(), OutOfMemory>
+    ensures { OnOk result (out.new.items ≡ out.old.items ++ started_name (seen shown.now) started) }
+{
+    match started {
+        None => Ok(()),
+        Some(stand) => push_name(out, shown, stand.thread, stand.function),
+    }
+}
+
+// Appends the threads that these steps started.
+fn push_each_started(
+    out: &mut Vec<u8>,
+    shown: &Shown<'_>,
+    steps: &[ToldStep],
+) -> Result<(), OutOfMemory>
+    ensures { OnOk result (out.new.items ≡ out.old.items ++ flat_map (told_name (seen shown.now)) steps.now) }
+{
+    for told in steps {
+        push_started(out, shown, told.started)?;
+    }
+    Ok(())
+}
+
+/// The names of the threads, each with its function.
+pub(crate) fn names_of(alloc: Global, shown: &Shown<'_>) -> Result<Vec<u8>, OutOfMemory>
+    ensures { IfOk result (λ text. text.items ≡ names_of (seen shown.now)) }
+{
+    let mut out = Vec::new(alloc);
+    push(&mut out, "T0 ")?;
+    push(
+        &mut out,
+        function_word(shown.program, shown.program.start.0),
+    )?;
+    push_each_started(&mut out, shown, shown.steps)?;
+    Ok(out)
 }
 
 // The thread that stands there.

@@ -3,19 +3,23 @@ ghost use Rattle.std.specs.Prelude.{◌≡◌, ◌+◌, ◌-◌, ◌<◌, ◌≤
 ghost use Rattle.mr_svg.specs.Svg.{mark_text};
 ghost use Rattle.mr_svg.specs.declared.shape.Shape.TheVariants as Shape;
 ghost use Rattle.mr_picture.specs.Ends.{behind_line, counted, first_line, head_marks, line_length, line_marks};
-ghost use Rattle.mr_picture.specs.Ends.{left_text, part_mark, part_text, tail_mark, title_mark, title_text};
+ghost use Rattle.mr_picture.specs.Ends.{left_text, line_room, names_mark, names_marks, part_mark, part_text, tail_mark, title_mark};
+ghost use Rattle.mr_picture.specs.Ends.{title_text};
 ghost use Rattle.mr_picture.specs.Grid.{tail_count};
 ghost use Rattle.mr_picture.specs.Scene.{IsSmall, scene_in};
 ghost use Rattle.mr_picture.specs.Steps.{mark_of};
 ghost use Rattle.mr_picture.specs.Texts.{cut_at};
 
 use crate::OutOfMemory;
-use crate::grid::{is_line_end, tail_count, tail_y};
+use crate::grid::{is_line_end, tail_count, tail_y, width};
 use crate::scene::Scene;
 use crate::texts::{cut_at, push};
 use mr_labels::push_number;
 use mr_svg::{Point, Shape, Sign, push_mark};
 use std::alloc::Global;
+
+// So many bytes of a line are drawn at most.
+const LINE: usize = 70;
 
 // Appends a count, and what is counted.
 fn push_counted(out: &mut Vec<u8>, count: usize, one: &str, many: &str) -> Result<(), OutOfMemory>
@@ -68,18 +72,19 @@ fn part_text(alloc: Global, scene: &Scene<'_>) -> Result<Vec<u8>, OutOfMemory>
     Ok(out)
 }
 
-// Appends a text at the left.
+// Appends a text at the left, or so many bytes of it.
 fn push_line(
     alloc: Global,
     out: &mut Vec<u8>,
     sign: Sign,
     y: u64,
+    most: usize,
     text: &[u8],
 ) -> Result<(), OutOfMemory>
     ensures { OnOk result (out.new.items ≡ out.old.items
-        ++ mark_text (mark_of sign (Shape.Words (record { x = 16; y = y })) (cut_at 70 text.now) text.now)) }
+        ++ mark_text (mark_of sign (Shape.Words (record { x = 16; y = y })) (cut_at most text.now) text.now)) }
 {
-    let short = cut_at(alloc, 70, text)?;
+    let short = cut_at(alloc, most, text)?;
     let at = Point { x: 16, y };
     push_mark(out, sign, Shape::Words { at }, short.as_slice(), text)
 }
@@ -94,7 +99,7 @@ fn push_title(
     requires { title.now ≡ title_text (scene_in scene.now) }
     ensures { OnOk result (out.new.items ≡ out.old.items ++ mark_text (title_mark (scene_in scene.now))) }
 {
-    push_line(alloc, out, Sign::Title, 30, title)
+    push_line(alloc, out, Sign::Title, 30, LINE, title)
 }
 
 // Appends which steps are drawn, and what is left out.
@@ -102,7 +107,37 @@ fn push_part(alloc: Global, out: &mut Vec<u8>, scene: &Scene<'_>) -> Result<(), 
     ensures { OnOk result (out.new.items ≡ out.old.items ++ mark_text (part_mark (scene_in scene.now))) }
 {
     let part = part_text(alloc, scene)?;
-    push_line(alloc, out, Sign::Note, 54, part.as_slice())
+    push_line(alloc, out, Sign::Note, 54, LINE, part.as_slice())
+}
+
+// How many bytes have room on a line.
+fn line_room(scene: &Scene<'_>) -> usize
+    requires { IsSmall (scene_in scene.now) }
+    ensures { result ≡ line_room (scene_in scene.now) }
+{
+    ((width(scene) - 40) / 8) as usize
+}
+
+// Appends whose the lanes are.
+fn push_names_mark(alloc: Global, out: &mut Vec<u8>, scene: &Scene<'_>) -> Result<(), OutOfMemory>
+    requires { IsSmall (scene_in scene.now) }
+    ensures { OnOk result (out.new.items ≡ out.old.items ++ mark_text (names_mark (scene_in scene.now))) }
+{
+    let room = line_room(scene);
+    push_line(alloc, out, Sign::Note, 70, room, scene.sketch.names)
+}
+
+// Appends whose the lanes are, where it is known.
+fn push_names(alloc: Global, out: &mut Vec<u8>, scene: &Scene<'_>) -> Result<(), OutOfMemory>
+    requires { IsSmall (scene_in scene.now) }
+    ensures { OnOk result (out.new.items
+        ≡ out.old.items ++ flat_map mark_text (names_marks (scene_in scene.now))) }
+{
+    if scene.sketch.names.is_empty() {
+        Ok(())
+    } else {
+        push_names_mark(alloc, out, scene)
+    }
 }
 
 /// Appends what is written above the rows.
@@ -112,11 +147,13 @@ pub(crate) fn push_heads(
     scene: &Scene<'_>,
     title: &[u8],
 ) -> Result<(), OutOfMemory>
-    requires { title.now ≡ title_text (scene_in scene.now) }
+    requires small { IsSmall (scene_in scene.now) }
+    requires title { title.now ≡ title_text (scene_in scene.now) }
     ensures { OnOk result (out.new.items ≡ out.old.items ++ flat_map mark_text (head_marks (scene_in scene.now))) }
 {
     push_title(alloc, out, scene, title)?;
-    push_part(alloc, out, scene)
+    push_part(alloc, out, scene)?;
+    push_names(alloc, out, scene)
 }
 
 // How many bytes stand before the first end of a line.
@@ -158,7 +195,7 @@ fn push_tail_line(
     ensures { OnOk result (out.new.items
         ≡ out.old.items ++ mark_text (tail_mark (scene_in scene.now) number line.now)) }
 {
-    push_line(alloc, out, Sign::Text, tail_y(scene, number), line)
+    push_line(alloc, out, Sign::Text, tail_y(scene, number), LINE, line)
 }
 
 /// Appends the text of the run's end, line by line.

@@ -1,5 +1,5 @@
 //! The laws of pictures.
-ghost use Rattle.std.specs.Prelude.{◌≡◌, ◌<◌, ◌≤◌, ◌^◌, ◌↔◌, All, List, Option, length};
+ghost use Rattle.std.specs.Prelude.{◌≡◌, ◌<◌, ◌≤◌, ◌^◌, ◌↔◌, All, List, Option, Some, length};
 ghost use Rattle.std.specs.List.{Contains};
 ghost use Rattle.mr_event.specs.declared.footprint.Pair.{Pair};
 ghost use Rattle.mr_rust_order.specs.Order.{HappensBefore};
@@ -9,7 +9,9 @@ ghost use Rattle.mr_picture.specs.declared.span.Span.{Span};
 ghost use Rattle.mr_listing.specs.Seen.{Seen};
 ghost use Rattle.mr_picture.specs.Arrows.{arrows};
 ghost use Rattle.mr_picture.specs.Clear.{IsClearOf};
-ghost use Rattle.mr_picture.specs.Drawn.{asked_scene};
+ghost use Rattle.mr_labels.specs.declared.step.Stand.{Stand};
+ghost use Rattle.mr_labels.specs.declared.step.ToldStep.{ToldStep};
+ghost use Rattle.mr_picture.specs.Drawn.{StandsIn, asked_scene, name_of, names_of};
 ghost use Rattle.mr_picture.specs.Grid.{height, width};
 ghost use Rattle.mr_picture.specs.Inside.{IsInside};
 ghost use Rattle.mr_picture.specs.Picture.{marks};
@@ -40,6 +42,13 @@ pub fn links_keep_clear()
         → (race : Pair) → Contains (races_in (done_in span (length s.feet)) (near_in span s.races)) race
         → ¬ step.number ≡ race.first → ¬ step.number ≡ race.second
         → IsClearOf (at_step (scene_of s span steps) step) (race_mark (scene_of s span steps) race).shape }
+{}
+
+/// A law: where a told step of a program's run started a thread, the names of the threads have its name, with the function
+/// in which it stands behind that step: it is the one with which it began.
+pub fn started_threads_are_named()
+    ensures { (s : Seen) (told : ToldStep) (stand : Stand) → Contains s.steps told → told.started ≡ Some stand
+        → StandsIn (name_of s stand.thread stand.function) (names_of s) }
 {}
 
 /// A law: an arrow is drawn as one of the machine's order alone exactly where its first step doesn't happen before its

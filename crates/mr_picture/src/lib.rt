@@ -12,7 +12,9 @@
 //! and lead wherever one step happens before another, and each is drawn by whether Rust's order has it too
 //! ([`arrows_tell_whose_they_are`]); the races are the listed ones both of whose steps are drawn; no text can become
 //! markup, by the law of `mr_svg`. [`marks_lie_inside`] is the law that each mark lies inside the picture, and
-//! [`links_keep_clear`] that no arrow and no line of a race comes near the mark of another step.
+//! [`links_keep_clear`] that no arrow and no line of a race comes near the mark of another step; by
+//! [`started_threads_are_named`] each thread that a told step started stands above the lanes with the function with which
+//! it began.
 //!
 //! The order of a part of a run, as it is drawn (Lamport: happens-before, and pictures of it):
 //!
@@ -58,7 +60,9 @@ mod witness;
 pub use because::{Because, because_of, because_word};
 pub use deeds::{push_ended, push_numbered, push_woken};
 pub use drawing::{picture, sketched};
-pub use law::{arrows_tell_whose_they_are, links_keep_clear, marks_lie_inside};
+pub use law::{
+    arrows_tell_whose_they_are, links_keep_clear, marks_lie_inside, started_threads_are_named,
+};
 pub use order::wakes_thread;
 pub use order_laws::{arrows_are_edges, paths_are_the_order, ways_are_the_order, witness_is_kept};
 pub use scene::{Drawn, Sketch, chosen};

@@ -19,6 +19,8 @@ pub struct Sketch<'a> {
     pub feet: &'a [Footprint],
     /// The races that it shows.
     pub races: &'a [Pair],
+    /// The names of its threads, where they are known.
+    pub names: &'a [u8],
     /// The text of its end.
     pub tail: &'a [u8],
 }

@@ -1,5 +1,5 @@
 //! The rows of steps.
-ghost use Rattle.std.specs.Prelude.{◌≡◌, ◌+◌, ◌-◌, ◌<◌, ◌≤◌, ◌^◌, ◌++◌, ◌∷◌, [], IfOk, OnOk, drop, flat_map, decimal, length};
+ghost use Rattle.std.specs.Prelude.{◌≡◌, ◌+◌, ◌-◌, ◌<◌, ◌≤◌, ◌^◌, ◌++◌, ◌∷◌, [], IfOk, OnOk, flat_map, decimal, length};
 ghost use Rattle.std.specs.List.{list_any};
 ghost use Rattle.mr_picture.specs.Span.{steps_in};
 ghost use Rattle.mr_svg.specs.Svg.{mark_text};
@@ -14,7 +14,7 @@ use crate::grid::{place_of, row_y, text_x, width};
 use crate::lanes::push_thread_word;
 use crate::partners::push_partners;
 use crate::scene::{Drawn, Scene, holds_race};
-use crate::texts::{count_text, cut, push, push_step_word};
+use crate::texts::{behind_two, count_text, cut, push, push_step_word};
 use mr_event::Pair;
 use mr_svg::{Point, Shape, Sign, push_mark};
 use std::alloc::Global;
@@ -81,7 +81,7 @@ fn did_text(alloc: Global, scene: &Scene<'_>, step: &Drawn) -> Result<Vec<u8>, O
     ensures { IfOk result (λ text. text.items ≡ did_text (scene_in scene.now) step.now) }
 {
     let mut out = Vec::new(alloc);
-    push_partners(&mut out, scene.near, step.number)?;
+    push_partners(alloc, &mut out, scene.near, step.number)?;
     out.extend_from_slice(step.did.as_slice())?;
     Ok(out)
 }
@@ -127,16 +127,6 @@ fn on_one_line(alloc: Global, text: &[u8]) -> Result<Vec<u8>, OutOfMemory>
         push_joined(&mut out, *byte)?;
     }
     Ok(out)
-}
-
-// What stands behind the first two bytes of a text.
-fn behind_two(text: &[u8]) -> &[u8]
-    ensures { result.now ≡ drop 2 text.now }
-{
-    match text {
-        [_, _, rest @ ..] => rest,
-        _ => &[],
-    }
 }
 
 // What a step did, on one line, as it is drawn.

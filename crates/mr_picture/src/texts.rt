@@ -1,5 +1,5 @@
 //! Texts of steps and links.
-ghost use Rattle.std.specs.Prelude.{◌≡◌, ◌+◌, ◌++◌, IfOk, OnOk, decimal};
+ghost use Rattle.std.specs.Prelude.{◌≡◌, ◌+◌, ◌++◌, IfOk, OnOk, decimal, drop};
 ghost use Rattle.mr_picture.specs.Texts.{cut, cut_at, step_word};
 
 use crate::OutOfMemory;
@@ -19,6 +19,23 @@ pub fn push_step_word(out: &mut Vec<u8>, step: usize) -> Result<(), OutOfMemory>
 {
     push(out, "step ")?;
     push_count(out, step)
+}
+
+/// What stands behind the first two bytes of a text.
+pub(crate) fn behind_two(text: &[u8]) -> &[u8]
+    ensures { result.now ≡ drop 2 text.now }
+{
+    match text {
+        [_, _, rest @ ..] => rest,
+        _ => &[],
+    }
+}
+
+/// Appends that.
+pub(crate) fn push_behind_two(out: &mut Vec<u8>, text: &[u8]) -> Result<(), OutOfMemory>
+    ensures { OnOk result (out.new.items ≡ out.old.items ++ drop 2 text.now) }
+{
+    out.extend_from_slice(behind_two(text))
 }
 
 /// The number of a step, counted from 1.

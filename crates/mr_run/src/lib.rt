@@ -12,7 +12,8 @@
 //! - [`step`]: one entry of a run that goes on, for a caller that finds its entries as it goes.
 //! - [`Clocked::steps`], [`Clocked::races`], [`Clocked::order`]: of a run so far the footprints, the predicted
 //!   races, and clocks that tell what happens before what.
-//! - [`first_witness`]: the witness for the first race, the kept or the short one.
+//! - [`race_of`]: the race that is listed for a step; [`witness_by`]: the kept or the short schedule of one of the
+//!   races; [`first_witness`]: the witness for the first race, the kept or the short one.
 //! - [`is_of_first`]: whether a schedule is of thread 0 alone.
 //!
 //! It hands on the [`Machine`] of `mr_step`, and what a step of it is refused for ([`StepFault`]).
@@ -39,4 +40,4 @@ pub use laws::{one_thread_shows_no_race, steps_and_entries};
 pub use mr_event::{Footprint, OutOfMemory, Pair};
 pub use mr_step::{Machine, StepFault};
 pub use running::{run, step};
-pub use witnesses::{Selection, first_witness};
+pub use witnesses::{Selection, first_witness, race_of, witness_by};

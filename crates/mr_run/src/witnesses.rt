@@ -1,8 +1,7 @@
-//! The witness for the first race of a run.
-ghost use Rattle.std.specs.Prelude.{◌≡◌, ◌≤◌, ◌∷◌, IfOk, List, length};
-ghost use Rattle.mr_event.specs.declared.footprint.Pair.{Pair as PairOf};
+//! The witness for a race of a run.
+ghost use Rattle.std.specs.Prelude.{◌≡◌, ◌≤◌, Contains, IfOk, length};
 ghost use Rattle.mr_event.specs.Predicted.{predicted};
-ghost use Rattle.mr_run.specs.Witnesses.{witness_by, witness_for};
+ghost use Rattle.mr_run.specs.Witnesses.{race_of, witness_by, witness_for};
 
 use mr_event::{Footprint, OutOfMemory, Pair};
 use mr_sched::Schedule;
@@ -18,8 +17,20 @@ pub enum Selection {
     Needed,
 }
 
-// The witness for a race that is the first.
-fn witness_by(
+/// The race that is listed for a step, counted from 0.
+pub fn race_of(races: &[Pair], step: usize) -> Option<Pair>
+    ensures { result ≡ race_of step races.now }
+{
+    for pair in races {
+        if pair.second == step {
+            return Some(*pair);
+        }
+    }
+    None
+}
+
+/// The schedule of a race of a run under a schedule: the kept or the short one.
+pub fn witness_by(
     alloc: Global,
     selection: Selection,
     steps: &[Footprint],
@@ -27,7 +38,7 @@ fn witness_by(
     pair: Pair,
 ) -> Result<Schedule, OutOfMemory>
     requires many { length steps.now ≤ length w.now.entries }
-    requires first { (rest : List PairOf) × (predicted steps.now ≡ pair ∷ rest) }
+    requires listed { Contains (predicted steps.now) pair }
     ensures { IfOk result (λ v. v ≡ witness_by selection steps.now w.now pair.first pair.second) }
 {
     match selection {

@@ -23,7 +23,7 @@ module _ (files : Contents) (files_rose out_rose : Type 0) (old new : Option (Li
   written_ends (CheckedSchedule name title program schedule) a (inr (rose, inl e)) written = absurd (cc)
   written_ends (CheckedSchedule name title program schedule) a (inr (rose, inr e)) written = absurd (cc)
   written_ends (Why code) a tells written = inr (seen a, inl tells, written)
-  written_ends (Help topic) a tells written = inr (seen a, inl tells, written)
+  written_ends (Help text) a tells written = inr (seen a, inl tells, written)
 
   -- a refusal that is defined
   is_defined : (form : Form) (r : Refusal) → IsAnswered files form files_rose (Err r)
@@ -55,8 +55,8 @@ module _ (files : Contents) (files_rose out_rose : Type 0) (old new : Option (Li
       inr (inr (rose, inr (ap refused (same_refusal e))))
   is_defined (Why code) r tells =
       elim (refusal_told (answer_of files (Some (Why code))) r tells) [ inl e ↦ inl e | inr e ↦ inr (inl (sym e)) ]
-  is_defined (Help topic) r tells =
-      elim (refusal_told (answer_of files (Some (Help topic))) r tells) [ inl e ↦ inl e | inr e ↦ inr (inl (sym e)) ]
+  is_defined (Help text) r tells =
+      elim (refusal_told (answer_of files (Some (Help text))) r tells) [ inl e ↦ inl e | inr e ↦ inr (inl (sym e)) ]
 
   pub refused_ends : (form : Form) (r : Refusal) → IsAnswered files form files_rose (Err r)
       → IsRefusedOrLeft r out_rose old new status → Ends files (Some form) files_rose out_rose old new status

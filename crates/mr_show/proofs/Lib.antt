@@ -10,4 +10,5 @@ pub mod NextLaws
 pub mod ShownLaws
 pub mod TracedLaws
 pub mod UnreadLaws
+pub mod WitnessLaws
 pub use Rattle.mr_input.proofs.EndingLaws as InputEndingLaws

@@ -4,14 +4,17 @@ use Rattle.mr_io.specs.Files.{Contents}
 use Rattle.mr_start.specs.Start.{start_fault}
 use Rattle.mr_input.specs.Inputs.{AsksForSchedule, spelled}
 use Rattle.mr_input.proofs.RefusedLaws.{written_status}
-use Rattle.mr_answer.specs.Answers.{unless_broken}
+use Rattle.mr_answer.specs.Answers.{Ran, ran, unless_broken}
+use Rattle.mr_event.specs.Predicted.{predicted}
+use Rattle.mr_run.specs.declared.witnesses.Selection.{Selection}
+use Rattle.mr_show.specs.Witness.{ran_told, witness_under}
 use Rattle.mr_answer.proofs.StatusLaws.{at_most_one}
 use Rattle.mr_fill.specs.Told.{texts_of}
 use Rattle.mr_fill.specs.declared.told.FilledText.{FilledText}
 use Rattle.mr_listing.specs.declared.held.StepValues.{StepValues}
 use Rattle.mr_base.specs.declared.reached.Reached.{Reached}
 use Rattle.mr_show.specs.declared.form.Alone.{Alone}
-use Rattle.mr_show.specs.declared.form.Saying.TheVariants.{Next, OfOrder, OfRun}
+use Rattle.mr_show.specs.declared.form.Saying.TheVariants.{Next, OfOrder, OfRun, Witness}
 use Rattle.mr_show.specs.declared.form.Filling.{Filling}
 use Rattle.mr_show.specs.Answer.{rust_of, usage}
 use Rattle.mr_hunt.specs.Aims.{Aim}
@@ -48,6 +51,12 @@ next_least text p v w None = by_fault (schedule_fault p w)
     by_fault None = omega arith
     by_fault (Some f) = omega arith
 
+witness_least : (step : ℕ) (selection : Selection) (p : Program) (r : Read) (f : Option PlacedFault) (came : Ran)
+    → (told (ran_told step selection p r) (unless_broken r.version r.schedule f came)).status ≤ 5
+witness_least step selection p r None came =
+    let least = at_most_one came.config.verdict (predicted came.steps) in omega (arith, least)
+witness_least step selection p r (Some f) came = omega arith
+
 order_least : (filling : Filling) (r : Result FilledText TextOf)
     → (told (filled_answer filling) (unless_bad r)).status ≤ 5
 order_least filling (Ok t) = halt_least (length t.halt == 0)
@@ -71,6 +80,12 @@ module _ (lacking : Type 0) where
   next_six text p (Ok r) = inl (next_least text p r.version r.schedule (start_fault p r.schedule.start))
   next_six text p (Err f) = inl (omega arith)
 
+  witness_six : (step : ℕ) (selection : Selection) (p : Program) (r : Result Read TextOf)
+      → SixIf lacking (told (witness_under step selection p) (spelled r)).status
+  witness_six step selection p (Ok r) =
+      inl (witness_least step selection p r (schedule_fault p r.schedule) (ran p r.schedule))
+  witness_six step selection p (Err f) = inl (omega arith)
+
 module _ (saying : Saying) (text : List ℕ) (p : Program) where
   under_six : (file : Option (List ℕ)) → SixIf (file ≡ None) (answer_under saying text file p).status
   under_six = by_saying saying
@@ -83,6 +98,9 @@ module _ (saying : Saying) (text : List ℕ) (p : Program) where
       by_saying Next (Some bytes) = next_six (Some bytes ≡ None) text p (schedule_of bytes)
       by_saying (OfOrder filling) None = inr (refl, refl)
       by_saying (OfOrder filling) (Some bytes) = inl (order_least filling (texts_of p bytes))
+      by_saying (Witness step selection) None = inr (refl, refl)
+      by_saying (Witness step selection) (Some bytes) =
+          witness_six (Some bytes ≡ None) step selection p (schedule_of bytes)
 
   form_six : (file : Option (List ℕ)) (faults : List FormFault) → faults_of p ≡ faults
       → SixIf ((faults_of p ≡ []) × (file ≡ None)) (form_or p faults (answer_under saying text file p)).status
@@ -201,7 +219,7 @@ module _ (files : Contents) where
   lacks (Some (CheckedSchedule name title program schedule)) six =
       files_six name title (files program) (files schedule) six
   lacks (Some (Why code)) six = let least = why_least code (entry_of code) in absurd (omega (arith, least, six))
-  lacks (Some (Help topic)) six = absurd (omega (arith, six))
+  lacks (Some (Help text)) six = absurd (omega (arith, six))
 
 -- ---- how a call ended
 

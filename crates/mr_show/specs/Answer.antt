@@ -42,20 +42,19 @@ use Rattle.mr_event.specs.declared.footprint.Pair.{Pair}
 use Rattle.mr_show.specs.declared.form.Part.{Part}
 use Rattle.mr_show.specs.declared.form.Part.TheVariants.{Json, Order, Picture, Races, Steps, TwoOrders}
 use Rattle.mr_show.specs.declared.form.Saying.{Saying}
-use Rattle.mr_show.specs.declared.form.Saying.TheVariants.{Next, OfOrder, OfRun}
+use Rattle.mr_show.specs.declared.form.Saying.TheVariants.{Next, OfOrder, OfRun, Witness}
 use Rattle.mr_show.specs.declared.form.Telling.{Telling}
-use Rattle.mr_show.specs.declared.form.Topic.{Topic}
 use Rattle.mr_values.specs.Values.{run_values}
 use Rattle.mr_why.specs.Why.{Entry, entry_of, entry_text}
 use Rattle.mr_show.specs.Filled.{order_answer, order_in}
 use Rattle.mr_show.specs.Checked.{checked_file, checked_files}
 use Rattle.mr_show.specs.Form.{Bare, CheckedProgram, CheckedSchedule, Form, Help, Hunted, Shown, Why}
 use Rattle.mr_show.specs.Gathered.{gathered}
-use Rattle.mr_show.specs.Help.{help_text}
 use Rattle.mr_show.specs.Hunted.{hunted_file}
 use Rattle.mr_show.specs.Next.{next_answer}
 use Rattle.mr_show.specs.Sentences.{reason_text}
 use Rattle.mr_show.specs.Traced.{bare_answer, holds_trace, placed_answer, telling_of}
+use Rattle.mr_show.specs.Witness.{witness_under}
 
 -- ---- what a run tells
 
@@ -164,6 +163,7 @@ abbrev pub answer_under : Saying → List ℕ → Option (List ℕ) → Program 
 answer_under (OfRun part) text file p = told (ran_under part text p) (schedule_in file)
 answer_under Next text file p = told (next_under text p) (schedule_in file)
 answer_under (OfOrder filling) text file p = told (order_answer filling p) (order_in file)
+answer_under (Witness step selection) text file p = told (witness_under step selection p) (schedule_in file)
 
 -- the same, where the program breaks no rule
 abbrev pub program_answer : Saying → List ℕ → Option (List ℕ) → Program → Answer
@@ -194,8 +194,8 @@ shown_answer saying second (Some bytes) = bytes_answer (telling_of saying) sayin
 -- ---- the answer
 
 -- help
-abbrev pub help_answer : Topic → Answer
-help_answer topic = record { text = help_text topic; status = 0 }
+abbrev pub help_answer : List ℕ → Answer
+help_answer text = record { text = text; status = 0 }
 
 -- what is said of an entry of the table of codes
 abbrev pub said_answer : Entry → Answer
@@ -219,7 +219,8 @@ usage = record {
   text = line (
       codes "usage: steps P S [FIRST LAST] | json P S | races P S | rust P S | "
       ++ codes "picture P S [FIRST LAST] | "
-      ++ codes "order P S FIRST LAST | races T PLACES | rust T [PLACES] | steps T PLACES [FIRST LAST] | "
+      ++ codes "order P S FIRST LAST | witness P S J [short] | "
+      ++ codes "races T PLACES | rust T [PLACES] | steps T PLACES [FIRST LAST] | "
       ++ codes "steps T FIRST LAST | picture T PLACES [FIRST LAST] | "
       ++ codes "next P S | check P [S] | fill P O | halt P O | hunt P FROM TO M [AIM] | draw P N M | why CODE | --help"
       );
@@ -236,4 +237,4 @@ answer_of files (Some (CheckedProgram name program)) = checked_file name (files 
 answer_of files (Some (CheckedSchedule name schedule_name program schedule)) =
     checked_files name schedule_name (files program) (files schedule)
 answer_of files (Some (Why code)) = why_answer code (entry_of code)
-answer_of files (Some (Help topic)) = help_answer topic
+answer_of files (Some (Help text)) = help_answer text

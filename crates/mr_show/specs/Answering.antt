@@ -116,7 +116,7 @@ IsAnswered files (CheckedProgram name program) rose result = IsChecked rose name
 IsAnswered files (CheckedSchedule name schedule_name program schedule) rose result =
     IsCheckedUnder rose name schedule_name (files program) (files schedule) result
 IsAnswered files (Why code) rose result = Tells (why_answer code (entry_of code)) result
-IsAnswered files (Help topic) rose result = Tells (help_answer topic) result
+IsAnswered files (Help text) rose result = Tells (help_answer text) result
 
 -- there are texts of the named files of which a form is answered so
 abbrev pub IsAnsweredOverTexts : Form → Type 0 → Result Written Refusal → Type 0

@@ -1,5 +1,5 @@
 -- The words behind the program's name.
-use Rattle.std.specs.Prelude.{ℕ, ◌+◌, ◌-◌, ◌^◌, ◌||◌, Bool, false, nat_le, List, [], ◌∷◌, Option, None, Some, bytes_eq}
+use Rattle.std.specs.Prelude.{ℕ, ◌+◌, ◌-◌, ◌^◌, ◌==◌, ◌||◌, Bool, false, nat_le, List, [], ◌∷◌, Option, None, Some, bytes_eq}
 use Rattle.std.specs.Prelude.{codes}
 use Rattle.std.specs.Prelude.{if◌then◌else◌}
 use Rattle.std.specs.List.{find, list_any, range_with_len}
@@ -8,6 +8,8 @@ use Rattle.mr_picture.specs.declared.span.Span.{Span}
 use Rattle.mr_hunt.specs.Aims.{Aim, Any, Lines, Named, Prints, Race, RustRace, Undefined}
 use Rattle.mr_input.specs.Numbers.{number_below}
 use Rattle.mr_why.specs.Why.{Entry, entry_of}
+use Rattle.mr_run.specs.declared.witnesses.Selection.{Selection}
+use Rattle.mr_run.specs.declared.witnesses.Selection.TheVariants.{Kept, Needed}
 use Rattle.mr_show.specs.declared.form.Form.{Form as Words}
 use Rattle.mr_show.specs.declared.form.Form.TheVariants as words
 use Rattle.mr_show.specs.declared.form.Part.{Part}
@@ -15,20 +17,18 @@ use Rattle.mr_show.specs.declared.form.Part.TheVariants.{Json, Order, Picture, R
 use Rattle.mr_show.specs.declared.form.Alone.{Alone}
 use Rattle.mr_show.specs.declared.form.Alone.TheVariants as alone
 use Rattle.mr_show.specs.declared.form.Range.{Range}
+use Rattle.mr_show.specs.Help.{help_with, help_with_all}
 use Rattle.mr_show.specs.Seek.{Drawn, Seek, seek_of, seeking}
 use Rattle.mr_show.specs.declared.form.Saying.{Saying}
-use Rattle.mr_show.specs.declared.form.Saying.TheVariants.{Next, OfOrder, OfRun}
+use Rattle.mr_show.specs.declared.form.Saying.TheVariants.{Next, OfOrder, OfRun, Witness}
 use Rattle.mr_show.specs.declared.form.Filling.TheVariants.{Halt, Schedule}
-use Rattle.mr_show.specs.declared.form.Topic.{Topic}
-use Rattle.mr_show.specs.declared.form.Topic.TheVariants.{Everything, OfCheck, OfFill, OfHunt, OfNext, OfOrdered}
-use Rattle.mr_show.specs.declared.form.Topic.TheVariants.{OfJson, OfPicture, OfRaces, OfRust, OfSteps, OfWhy}
 
 -- What is asked for: what is said of the run of the program in one file under the schedule in another, which is a part
 -- of it, its steps from one number up to another, all of it as JSON, its races by pairs of places, also by two orders,
--- or a picture of it, or how it can go on; or what the order in another becomes, which is a schedule, or where it can't
--- go on; which ends the runs of some numbers have, or the first of these runs that has what is looked for, or the
--- schedule of a number; the steps of a trace; what refuses the program in a file, or a schedule of it in another, told
--- by the names of the files; what is said of a code; or help.
+-- or a picture of it, or how it can go on, or the schedule that shows the race of a step; or what the order in another
+-- becomes, which is a schedule, or where it can't go on; which ends the runs of some numbers have, or the first of
+-- these runs that has what is looked for, or the schedule of a number; the steps of a trace; what refuses the program
+-- in a file, or a schedule of it in another, told by the names of the files; what is said of a code; or help.
 pub data Form : Type 0 where
   Shown : (saying : Saying) (program schedule : List ℕ) → Form
   Hunted : (range : Range) (seek : Seek) (name program : List ℕ) → Form
@@ -36,24 +36,11 @@ pub data Form : Type 0 where
   CheckedProgram : (name program : List ℕ) → Form
   CheckedSchedule : (name schedule_name program schedule : List ℕ) → Form
   Why : (code : ℕ) → Form
-  Help : (topic : Topic) → Form
+  Help : (text : List ℕ) → Form
 
 -- help with the form of a word
 abbrev pub help_of : List ℕ → Option Form
-help_of word =
-    if bytes_eq word (codes "steps") then Some (Help OfSteps)
-    else (if bytes_eq word (codes "json") then Some (Help OfJson)
-    else (if bytes_eq word (codes "races") then Some (Help OfRaces)
-    else (if bytes_eq word (codes "rust") then Some (Help OfRust)
-    else (if bytes_eq word (codes "picture") then Some (Help OfPicture)
-    else (if bytes_eq word (codes "next") then Some (Help OfNext)
-    else (if bytes_eq word (codes "check") then Some (Help OfCheck)
-    else (if bytes_eq word (codes "fill") then Some (Help OfFill)
-    else (if bytes_eq word (codes "halt") then Some (Help OfFill)
-    else (if bytes_eq word (codes "hunt") then Some (Help OfHunt)
-    else (if bytes_eq word (codes "draw") then Some (Help OfHunt)
-    else (if bytes_eq word (codes "order") then Some (Help OfOrdered)
-    else (if bytes_eq word (codes "why") then Some (Help OfWhy) else None))))))))))))
+help_of word = option_map Help (help_with word)
 
 -- whether this is the name of a code
 abbrev pub is_name_of : List ℕ → Option Entry → Bool
@@ -185,17 +172,36 @@ abbrev pub word_range : List ℕ → List ℕ → List ℕ → Option Range
 word_range from to most =
     range_of (number_below (2 ^ 64) from) (number_below (2 ^ 64) to) (number_below (2 ^ 20 + 1) most)
 
+-- the number of a step, counted from 0, and in words from 1
+abbrev pub step_of : Option ℕ → Option ℕ
+step_of None = None
+step_of (Some number) = if number == 0 then None else Some (number - 1)
+
+-- which entries the schedule of a race takes, by a word
+abbrev pub selection_of : List ℕ → Option Selection
+selection_of word = if bytes_eq word (codes "short") then Some Needed else None
+
+-- the schedule that shows the race of a step
+abbrev pub witness_of : List ℕ → List ℕ → Option ℕ → Option Selection → Option Form
+witness_of program schedule None selection = None
+witness_of program schedule (Some step) None = None
+witness_of program schedule (Some step) (Some selection) = Some (Shown (Witness step selection) program schedule)
+
 -- four words
 abbrev pub four_form : List ℕ → List ℕ → List ℕ → List ℕ → Option Form
 four_form word file third fourth =
     if bytes_eq word (codes "draw") then drawn_of file (word_range third third fourth)
-    else bare_of word file (span_of (number_below (2 ^ 32) third) (number_below (2 ^ 32) fourth))
+    else (if bytes_eq word (codes "witness")
+    then witness_of file third (step_of (number_below (2 ^ 32) fourth)) (Some Kept)
+    else bare_of word file (span_of (number_below (2 ^ 32) third) (number_below (2 ^ 32) fourth)))
 
 -- five words and more
 abbrev pub long_form : List ℕ → List ℕ → List ℕ → List ℕ → List ℕ → List (List ℕ) → Option Form
 long_form word program third fourth fifth [] =
     if bytes_eq word (codes "hunt") then hunt_of word program (word_range third fourth fifth) None
-    else part_of word program third (span_of (number_below (2 ^ 32) fourth) (number_below (2 ^ 32) fifth))
+    else (if bytes_eq word (codes "witness")
+    then witness_of program third (step_of (number_below (2 ^ 32) fourth)) (selection_of fifth)
+    else part_of word program third (span_of (number_below (2 ^ 32) fourth) (number_below (2 ^ 32) fifth)))
 long_form word program third fourth fifth (aim ∷ []) =
     aimed_of word program (word_range third fourth fifth) (word_aim aim)
 long_form word program third fourth fifth (aim ∷ text ∷ []) =
@@ -204,13 +210,14 @@ long_form word program third fourth fifth _ = None
 
 -- `steps P S`, `steps P S FIRST LAST`, `json P S`, `races P S`, `rust P S`, `picture P S`, `picture P S FIRST LAST`,
 -- `order P S FIRST LAST`, `next P S`, `rust T` and `steps T FIRST LAST`, where FIRST and LAST are below 2^32;
+-- `witness P S J`, where J is from 1 to 2^32 - 1, and `short` behind it;
 -- `fill P O` and `halt P O`;
 -- `hunt P FROM TO M`, where FROM is at most TO, both are below 2^64, and M is at most 2^20, and an aim behind it;
 -- `draw P N M`, with such numbers; `check P` and `check P S`; `why CODE`, where CODE is below 2^16 or the name of a
--- code; `--help`, and that behind `steps`, `json`, `races`, `rust`, `picture`, `order`, `next`, `check`, `fill`,
--- `halt`, `hunt`, `draw` or `why`; and no other form
+-- code; `--help`, and that behind `steps`, `json`, `races`, `rust`, `picture`, `order`, `witness`, `next`, `check`,
+-- `fill`, `halt`, `hunt`, `draw` or `why`; and no other form
 abbrev pub form_of : List (List ℕ) → Option Form
-form_of (word ∷ []) = if bytes_eq word (codes "--help") then Some (Help Everything) else None
+form_of (word ∷ []) = if bytes_eq word (codes "--help") then Some (Help help_with_all) else None
 form_of (word ∷ option ∷ []) =
     if bytes_eq option (codes "--help") then help_of word else two_of word option
 form_of (word ∷ program ∷ schedule ∷ []) = three_form word program schedule
@@ -227,4 +234,4 @@ asked (words.CheckedProgram program) = CheckedProgram program.now program.now
 asked (words.CheckedSchedule program schedule) =
     CheckedSchedule program.now schedule.now program.now schedule.now
 asked (words.Why code) = Why code
-asked (words.Help topic) = Help topic
+asked (words.Help text) = Help text.now

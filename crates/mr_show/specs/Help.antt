@@ -1,18 +1,17 @@
 -- The texts of help.
-use Rattle.std.specs.Prelude.{ℕ, List, ◌++◌, codes}
+use Rattle.std.specs.Prelude.{ℕ, List, [], ◌∷◌, ◌++◌, codes, Option}
+use Rattle.mr_ast.specs.Words.{Table, looked_up}
 use Rattle.mr_listing.specs.ReportReport.{line}
-use Rattle.mr_show.specs.declared.form.Topic.{Topic}
-use Rattle.mr_show.specs.declared.form.Topic.TheVariants.{Everything, OfCheck, OfFill, OfHunt, OfNext, OfOrdered}
-use Rattle.mr_show.specs.declared.form.Topic.TheVariants.{OfJson, OfPicture, OfRaces, OfRust, OfSteps, OfWhy}
 
--- with each form
-abbrev pub help_text : Topic → List ℕ
-help_text Everything =
+-- with all forms
+unfoldable pub help_with_all : List ℕ
+help_with_all =
     line (codes "mirace_show steps P S [FIRST LAST]   the steps of a run, each at its place in the program's text")
     ++ line (codes "mirace_show json P S                 a run as JSON, for tools")
     ++ line (codes "mirace_show races P S                the races of a run by pairs of places")
     ++ line (codes "mirace_show picture P S [FIRST LAST] a picture of a run, as an SVG document")
     ++ line (codes "mirace_show order P S FIRST LAST     how two steps of a run are ordered, edge by edge")
+    ++ line (codes "mirace_show witness P S J [short]    a schedule that shows the race of step J")
     ++ line (
     codes "mirace_show rust P S                 the races of a run by Rust's own order "
     ++ codes "beside those by the machine's"
@@ -47,11 +46,13 @@ help_text Everything =
     )
     ++ line (codes "of the places of its steps.")
     ++ line (
-    codes "With --help behind one of the words steps, json, races, rust, picture, order, next, "
-    ++ codes "check, fill, halt,"
+    codes "With --help behind one of the words steps, json, races, rust, picture, order, witness, "
+    ++ codes "next, check, fill, halt,"
     )
     ++ line (codes "hunt, draw and why it tells more.")
-help_text OfSteps =
+
+abbrev pub steps_help : List ℕ
+steps_help =
     line (codes "mirace_show steps P S [FIRST LAST]")
     ++ line (
     codes "Runs the program in file P under the schedule in file S, and writes a line for "
@@ -81,7 +82,9 @@ help_text OfSteps =
     codes "it loaded and stored, and the steps with which it races. At the end stands how "
     ++ codes "many races there are."
     )
-help_text OfJson =
+
+abbrev pub json_help : List ℕ
+json_help =
     line (codes "mirace_show json P S")
     ++ line (
     codes "Runs the program in file P under the schedule in file S, and writes the run as "
@@ -92,7 +95,9 @@ help_text OfJson =
     ++ codes "stored, its races with the"
     )
     ++ line (codes "places of their two steps, and its verdict. docs/run.schema.json says which form it has.")
-help_text OfRaces =
+
+abbrev pub races_help : List ℕ
+races_help =
     line (codes "mirace_show races P S")
     ++ line (
     codes "Runs the program in file P under the schedule in file S, and writes a line for "
@@ -111,7 +116,9 @@ help_text OfRaces =
     codes "steps. Below each two places stand the two steps of the first race, with what "
     ++ codes "they loaded and stored."
     )
-help_text OfRust =
+
+abbrev pub rust_help : List ℕ
+rust_help =
     line (codes "mirace_show rust P S")
     ++ line (
     codes "Runs the program in file P under the schedule in file S, and writes a line for "
@@ -135,7 +142,9 @@ help_text OfRust =
     codes "steps, with the two steps of the first race; and without PLACES each race by its "
     ++ codes "steps and threads."
     )
-help_text OfPicture =
+
+abbrev pub picture_help : List ℕ
+picture_help =
     line (codes "mirace_show picture P S [FIRST LAST]")
     ++ line (
     codes "Runs the program in file P under the schedule in file S, and writes a picture of "
@@ -151,7 +160,9 @@ help_text OfPicture =
     codes "Draws the same of the trace in file T, which begins with MRTR, each step at the "
     ++ codes "place that file PLACES tells."
     )
-help_text OfNext =
+
+abbrev pub next_help : List ℕ
+next_help =
     line (codes "mirace_show next P S")
     ++ line (
     codes "Runs the program in file P under the schedule in file S, up to its end or to "
@@ -165,7 +176,9 @@ help_text OfNext =
     codes "stands of each thread where it is, whether it can go on, what its next step "
     ++ codes "asks for, and what it waits for."
     )
-help_text OfCheck =
+
+abbrev pub check_help : List ℕ
+check_help =
     line (codes "mirace_show check P [S]")
     ++ line (
     codes "Tells the first fault of the program in file P, or the first rule that it breaks: "
@@ -184,7 +197,9 @@ help_text OfCheck =
     ++ codes "an entry its thread and its"
     )
     ++ line (codes "picks, and how many entries there are where it breaks no rule.")
-help_text OfFill =
+
+abbrev pub fill_help : List ℕ
+fill_help =
     line (codes "mirace_show fill P O | halt P O")
     ++ line (
     codes "Writes the schedule of the program in file P whose steps are of the threads of "
@@ -203,7 +218,9 @@ help_text OfFill =
     ++ codes "halt with the same files tells the"
     )
     ++ line (codes "line of the order and the rule that its turn would break.")
-help_text OfHunt =
+
+abbrev pub hunt_help : List ℕ
+hunt_help =
     line (codes "mirace_show hunt P FROM TO M [AIM]")
     ++ line (
     codes "Draws a schedule of at most M entries for the program in file P from each number "
@@ -224,7 +241,9 @@ help_text OfHunt =
     ++ line (codes "prints TEXT, or two lines of P.")
     ++ line (codes "mirace_show draw P N M")
     ++ line (codes "Writes the schedule that is drawn from number N alone, with at most M entries.")
-help_text OfOrdered =
+
+abbrev pub order_help : List ℕ
+order_help =
     line (codes "mirace_show order P S FIRST LAST")
     ++ line (
     codes "Runs the program in file P under the schedule in file S, and writes the way from "
@@ -239,7 +258,26 @@ help_text OfOrdered =
     ++ codes "what they load and store. Or"
     )
     ++ line (codes "it says that nothing orders the two.")
-help_text OfWhy =
+
+abbrev pub witness_help : List ℕ
+witness_help =
+    line (codes "mirace_show witness P S J [short]")
+    ++ line (
+    codes "Runs the program in file P under the schedule in file S, and writes a schedule "
+    ++ codes "that brings the machine to"
+    )
+    ++ line (
+    codes "step J and the step with which it races, side by side, where it reports the data "
+    ++ codes "race. With short the"
+    )
+    ++ line (
+    codes "schedule has only the entries that the two steps need. Or it says that step J "
+    ++ codes "races with no earlier step, or"
+    )
+    ++ line (codes "that an earlier race is in its way.")
+
+abbrev pub why_help : List ℕ
+why_help =
     line (codes "mirace_show why CODE")
     ++ line (
     codes "Writes what is said of the rule, the fault or the reason of undefined behaviour "
@@ -249,3 +287,15 @@ help_text OfWhy =
     codes "the first with this name: its name, a sentence, what usually causes it, what to "
     ++ codes "do next, and the smallest example."
     )
+
+-- the words behind which help is asked for, each with the text of its form
+abbrev pub help_texts : Table (List ℕ)
+help_texts =
+    (codes "steps", steps_help) ∷ (codes "json", json_help) ∷ (codes "races", races_help) ∷ (codes "rust", rust_help)
+    ∷ (codes "picture", picture_help) ∷ (codes "next", next_help) ∷ (codes "check", check_help)
+    ∷ (codes "fill", fill_help) ∷ (codes "halt", fill_help) ∷ (codes "hunt", hunt_help) ∷ (codes "draw", hunt_help)
+    ∷ (codes "order", order_help) ∷ (codes "witness", witness_help) ∷ (codes "why", why_help) ∷ []
+
+-- HELP WITH THE FORM of a word
+unfoldable pub help_with : List ℕ → Option (List ℕ)
+help_with word = looked_up help_texts word

@@ -14,5 +14,6 @@ pub mod Seek
 pub mod Sentences
 pub mod Traced
 pub mod Unread
+pub mod Witness
 pub use Rattle.mr_input.specs.Ending as InputEnding
 pub use Rattle.mr_input.specs.Writing as InputWriting

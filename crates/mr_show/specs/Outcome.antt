@@ -21,7 +21,7 @@ IsUnread files (CheckedProgram name program) a = a ≡ refused refusal.ReadProgr
 IsUnread files (CheckedSchedule name schedule_name program schedule) a =
     (a ≡ refused refusal.ReadProgram) ⊎ (a ≡ refused refusal.ReadSchedule)
 IsUnread files (Why code) a = ⊥
-IsUnread files (Help topic) a = ⊥
+IsUnread files (Help text) a = ⊥
 
 -- the answer by definition, or that of a read that failed where the count of faults of the files rose
 abbrev pub IsPossible : Contents → Form → Type 0 → Answer → Type 0
@@ -46,7 +46,7 @@ over_holding (CheckedProgram name program) = CheckedProgram name (codes "program
 over_holding (CheckedSchedule name schedule_name program schedule) =
     CheckedSchedule name schedule_name (codes "program") (codes "schedule")
 over_holding (Why code) = Why code
-over_holding (Help topic) = Help topic
+over_holding (Help text) = Help text
 
 -- How a call ends over files that don't tell what they hold: there are texts of the named files of which it ends as
 -- defined.

@@ -16,7 +16,7 @@ LacksFile files (Some (CheckedProgram name program)) = files program ≡ None
 LacksFile files (Some (CheckedSchedule name schedule_name program schedule)) =
     (files program ≡ None) ⊎ (files schedule ≡ None)
 LacksFile files (Some (Why code)) = ⊥
-LacksFile files (Some (Help topic)) = ⊥
+LacksFile files (Some (Help text)) = ⊥
 
 -- WHY A FILE WAS NOT READ: a failure, which is counted, or where the files tell what they hold, that it isn't there.
 abbrev pub IsUnreadBecause : Type 0 → Option Contents → Option Form → Type 0

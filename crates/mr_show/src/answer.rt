@@ -10,8 +10,7 @@ ghost use Rattle.mr_show.specs.Answering.{IsAnswered, IsAnsweredOverTexts, IsSho
 ghost use Rattle.mr_show.specs.Form.{asked};
 
 use crate::checked::{checked_file, checked_files};
-use crate::form::{Form, Topic};
-use crate::help::help_text;
+use crate::form::Form;
 use crate::hunted::hunted_file;
 use crate::traced::{bare_file, shown_files};
 use mr_input::{Refusal, Written, push_number};
@@ -53,7 +52,7 @@ pub(crate) fn answer<F: Files>(
             checked_files(alloc, files, program, schedule)
         }
         Form::Why { code } => explained(alloc, code),
-        Form::Help { topic } => help(alloc, topic),
+        Form::Help { text } => help(alloc, text),
     }
 }
 
@@ -99,12 +98,12 @@ fn no_code(alloc: Global, code: u16) -> Result<Vec<u8>, AllocError>
     Ok(text)
 }
 
-// Help with a form, or with all.
-fn help(alloc: Global, topic: Topic) -> Result<Written, Refusal>
-    ensures answer { Tells (help_answer topic) result }
+// Help, by its text.
+fn help(alloc: Global, text: &[u8]) -> Result<Written, Refusal>
+    ensures answer { Tells (help_answer text.now) result }
     ensures status { IfOk result (λ a. IsStatus a.status) }
     ensures read { ¬ IsUnreadFault result }
 {
-    let text = Vec::from_slice(alloc, help_text(topic))?;
+    let text = Vec::from_slice(alloc, text)?;
     Ok(Written { text, status: 0 })
 }

@@ -6,13 +6,15 @@ ghost use Rattle.mr_hunt.specs.Aims.{Named, aim_of};
 ghost use Rattle.mr_show.specs.Form.{Why, aimed_of, asked, bare_of, code_by, code_named, drawn_of, form_of, four_form};
 ghost use Rattle.mr_show.specs.Form.{help_of, hunt_of, is_name_of, is_reason, is_verdict, lines_from, long_form};
 ghost use Rattle.mr_show.specs.Form.{part_of, span_of, spanned, three_form, two_aim, two_of, whole_of, word_aim};
-ghost use Rattle.mr_show.specs.Form.{word_range};
+ghost use Rattle.mr_show.specs.Form.{selection_of, step_of, witness_of, word_range};
 ghost use Rattle.mr_show.specs.Seek.{seek_of, seeking};
 ghost use Rattle.mr_why.specs.Why.{entry_of};
 
+use crate::help::{help_with, help_with_all};
 use mr_hunt::Aim;
 use mr_input::number_below;
 use mr_picture::Span;
+use mr_run::Selection;
 use mr_why::entry;
 
 /// What is shown of a run that was taken to its end.
@@ -50,6 +52,8 @@ pub enum Saying {
     Next,
     /// What becomes of an order, whose file stands where that of a schedule would.
     OfOrder(Filling),
+    /// The schedule that shows the race which is listed for a step, counted from 0.
+    Witness { step: u32, selection: Selection },
 }
 
 /// What is told of a trace.
@@ -72,23 +76,6 @@ pub enum Alone {
     Steps(Span),
     /// Its races by two orders.
     TwoOrders,
-}
-
-/// What help is asked for: with all forms, or with one.
-#[derive(Clone, Copy)]
-pub enum Topic {
-    Everything,
-    OfSteps,
-    OfJson,
-    OfRaces,
-    OfRust,
-    OfPicture,
-    OfNext,
-    OfFill,
-    OfHunt,
-    OfOrdered,
-    OfCheck,
-    OfWhy,
 }
 
 /// Numbers from one to another, and how many entries the schedules have at most that are drawn from them.
@@ -143,8 +130,9 @@ pub enum Form<'a> {
     Why {
         code: u16,
     },
+    /// Help, by its text.
     Help {
-        topic: Topic,
+        text: &'static [u8],
     },
 }
 
@@ -155,48 +143,8 @@ pub(crate) const ALL: usize = 1 << 22;
 fn help_of<'a>(word: &str) -> Option<Form<'a>>
     ensures { option_map asked result ≡ help_of word.now }
 {
-    match word {
-        "steps" => Some(Form::Help {
-            topic: Topic::OfSteps,
-        }),
-        "json" => Some(Form::Help {
-            topic: Topic::OfJson,
-        }),
-        "races" => Some(Form::Help {
-            topic: Topic::OfRaces,
-        }),
-        "rust" => Some(Form::Help {
-            topic: Topic::OfRust,
-        }),
-        "picture" => Some(Form::Help {
-            topic: Topic::OfPicture,
-        }),
-        "next" => Some(Form::Help {
-            topic: Topic::OfNext,
-        }),
-        "check" => Some(Form::Help {
-            topic: Topic::OfCheck,
-        }),
-        "fill" => Some(Form::Help {
-            topic: Topic::OfFill,
-        }),
-        "halt" => Some(Form::Help {
-            topic: Topic::OfFill,
-        }),
-        "hunt" => Some(Form::Help {
-            topic: Topic::OfHunt,
-        }),
-        "draw" => Some(Form::Help {
-            topic: Topic::OfHunt,
-        }),
-        "order" => Some(Form::Help {
-            topic: Topic::OfOrdered,
-        }),
-        "why" => Some(Form::Help {
-            topic: Topic::OfWhy,
-        }),
-        _ => None,
-    }
+    let text = help_with(word)?;
+    Some(Form::Help { text })
 }
 
 // The first code of this name.
@@ -498,6 +446,47 @@ fn two_aim<'a>(word: &str, text: &'a str) -> Option<Aim<'a>>
     }
 }
 
+// The number of a step, counted from 0, and in words from 1.
+fn step_of(word: &str) -> Option<u32>
+    ensures { result ≡ step_of (number_below (2 ^ 32) word.now) }
+{
+    let number = number_below(word, 1 << 32)?;
+    if number == 0 {
+        None
+    } else {
+        Some(number as u32 - 1)
+    }
+}
+
+// `witness P S J`, and that with a word behind it.
+fn witness_of<'a>(
+    program: &'a str,
+    schedule: &'a str,
+    step: &str,
+    selection: Option<Selection>,
+) -> Option<Form<'a>>
+    ensures { option_map asked result
+        ≡ witness_of program.now schedule.now (step_of (number_below (2 ^ 32) step.now)) selection }
+{
+    let step = step_of(step)?;
+    let selection = selection?;
+    Some(Form::Shown {
+        saying: Saying::Witness { step, selection },
+        program,
+        schedule,
+    })
+}
+
+// Which entries the schedule of a race takes, by a word.
+fn selection_of(word: &str) -> Option<Selection>
+    ensures { result ≡ selection_of word.now }
+{
+    match word {
+        "short" => Some(Selection::Needed),
+        _ => None,
+    }
+}
+
 // The form of five words.
 fn five_form<'a>(
     word: &str,
@@ -510,16 +499,18 @@ fn five_form<'a>(
 {
     match word {
         "hunt" => hunt_of(word, program, word_range(third, fourth, fifth), None),
+        "witness" => witness_of(program, third, fourth, selection_of(fifth)),
         _ => part_of(word, program, third, fourth, fifth),
     }
 }
 
-// `draw P N M` and `steps T FIRST LAST`.
-fn four_form<'a>(word: &str, file: &'a str, third: &str, fourth: &str) -> Option<Form<'a>>
+// `draw P N M`, `witness P S J` and `steps T FIRST LAST`.
+fn four_form<'a>(word: &str, file: &'a str, third: &'a str, fourth: &str) -> Option<Form<'a>>
     ensures { option_map asked result ≡ four_form word.now file.now third.now fourth.now }
 {
     match word {
         "draw" => drawn_of(file, word_range(third, third, fourth)),
+        "witness" => witness_of(file, third, fourth, Some(Selection::Kept)),
         _ => bare_of(word, file, third, fourth),
     }
 }
@@ -551,7 +542,7 @@ fn one_form<'a>(word: &str) -> Option<Form<'a>>
 {
     match word {
         "--help" => Some(Form::Help {
-            topic: Topic::Everything,
+            text: help_with_all(),
         }),
         _ => None,
     }
@@ -567,11 +558,11 @@ fn two_form<'a>(word: &str, option: &'a str) -> Option<Form<'a>>
     }
 }
 
-/// The form of these words: `steps P S`, `steps P S FIRST LAST`, `races P S`, `rust P S`, `picture P S`,
-/// `picture P S FIRST LAST`, `order P S FIRST LAST`, `next P S`, `steps T FIRST LAST`, `rust T`, `check P`, `check P S`,
-/// `fill P O`, `halt P O`, `hunt P FROM TO M` and that with an aim, `draw P N M`, `why CODE`, `--help`, or one of the
-/// words `steps`, `races`, `rust`, `picture`, `order`, `next`, `check`, `fill`, `halt`, `hunt`, `draw` and `why` with
-/// `--help` behind it.
+/// The form of these words: `steps P S`, `steps P S FIRST LAST`, `races P S`, `rust P S`, `picture P S`, `picture P S
+/// FIRST LAST`, `order P S FIRST LAST`, `witness P S J`, `witness P S J short`, `next P S`, `steps T FIRST LAST`,
+/// `rust T`, `check P`, `check P S`, `fill P O`, `halt P O`, `hunt P FROM TO M` and that with an aim, `draw P N M`,
+/// `why CODE`, `--help`, or one of the words `steps`, `races`, `rust`, `picture`, `order`, `witness`, `next`,
+/// `check`, `fill`, `halt`, `hunt`, `draw` and `why` with `--help` behind it.
 pub fn form_of(words: &[String]) -> Option<Form<'_>>
     ensures { option_map asked result ≡ form_of (map string_bytes words.now) }
 {

@@ -1,8 +1,7 @@
 //! The texts of help.
-ghost use Rattle.std.specs.Prelude.{◌≡◌};
-ghost use Rattle.mr_show.specs.Help.{help_text};
-
-use crate::form::Topic;
+ghost use Rattle.std.specs.Prelude.{◌≡◌, map, option_copied};
+ghost use Rattle.mr_ast.specs.Words.{looked_up};
+ghost use Rattle.mr_show.specs.Help.{help_with, help_with_all};
 
 const EVERYTHING: &[u8] = b"\
 mirace_show steps P S [FIRST LAST]   the steps of a run, each at its place in the program's text
@@ -10,6 +9,7 @@ mirace_show json P S                 a run as JSON, for tools
 mirace_show races P S                the races of a run by pairs of places
 mirace_show picture P S [FIRST LAST] a picture of a run, as an SVG document
 mirace_show order P S FIRST LAST     how two steps of a run are ordered, edge by edge
+mirace_show witness P S J [short]    a schedule that shows the race of step J
 mirace_show rust P S                 the races of a run by Rust's own order beside those by the machine's
 mirace_show races T PLACES           the races of a trace by pairs of places
 mirace_show rust T [PLACES]          the same of a trace; without PLACES race by race
@@ -25,7 +25,7 @@ mirace_show draw P N M               the schedule of at most M entries that is d
 mirace_show why CODE                 what is said of a code of a rule, a fault or a reason
 P is the file of a program, S that of a schedule, O that of an order, T that of a trace, and PLACES that
 of the places of its steps.
-With --help behind one of the words steps, json, races, rust, picture, order, next, check, fill, halt,
+With --help behind one of the words steps, json, races, rust, picture, order, witness, next, check, fill, halt,
 hunt, draw and why it tells more.
 ";
 
@@ -123,28 +123,60 @@ thread, a thread was woken or started, or by a lock, a join, an allocation or wh
 it says that nothing orders the two.
 ";
 
+const OF_WITNESS: &[u8] = b"\
+mirace_show witness P S J [short]
+Runs the program in file P under the schedule in file S, and writes a schedule that brings the machine to
+step J and the step with which it races, side by side, where it reports the data race. With short the
+schedule has only the entries that the two steps need. Or it says that step J races with no earlier step, or
+that an earlier race is in its way.
+";
+
 const OF_WHY: &[u8] = b"\
 mirace_show why CODE
 Writes what is said of the rule, the fault or the reason of undefined behaviour that has this number, or is
 the first with this name: its name, a sentence, what usually causes it, what to do next, and the smallest example.
 ";
 
-/// The text of help with a form, or with all.
-pub(crate) fn help_text(topic: Topic) -> &'static [u8]
-    ensures { result.now ≡ help_text topic }
+// The words behind which help is asked for, each with the text of its form.
+const TEXTS: [(&str, &[u8]); 14] = [
+    ("steps", OF_STEPS),
+    ("json", OF_JSON),
+    ("races", OF_RACES),
+    ("rust", OF_RUST),
+    ("picture", OF_PICTURE),
+    ("next", OF_NEXT),
+    ("check", OF_CHECK),
+    ("fill", OF_FILL),
+    ("halt", OF_FILL),
+    ("hunt", OF_HUNT),
+    ("draw", OF_HUNT),
+    ("order", OF_ORDERED),
+    ("witness", OF_WITNESS),
+    ("why", OF_WHY),
+];
+
+// The text that stands beside a word in a table.
+fn text_beside(table: &[(&'static str, &'static [u8])], word: &str) -> Option<&'static [u8]>
+    ensures { option_copied result ≡ looked_up (map (λ e. (e.0.now, e.1.now)) table.now) word.now }
 {
-    match topic {
-        Topic::Everything => EVERYTHING,
-        Topic::OfSteps => OF_STEPS,
-        Topic::OfJson => OF_JSON,
-        Topic::OfRaces => OF_RACES,
-        Topic::OfRust => OF_RUST,
-        Topic::OfPicture => OF_PICTURE,
-        Topic::OfNext => OF_NEXT,
-        Topic::OfFill => OF_FILL,
-        Topic::OfHunt => OF_HUNT,
-        Topic::OfOrdered => OF_ORDERED,
-        Topic::OfCheck => OF_CHECK,
-        Topic::OfWhy => OF_WHY,
+    for entry in table {
+        if word == entry.0 {
+            return Some(entry.1);
+        }
     }
+    None
+}
+
+/// The text of help with the form of a word.
+pub(crate) fn help_with(word: &str) -> Option<&'static [u8]>
+    ensures { option_copied result ≡ help_with word.now }
+{
+    text_beside(&TEXTS, word)
+}
+
+/// The text of help with all forms.
+pub(crate) fn help_with_all() -> &'static [u8]
+    ensures { result.now ≡ help_with_all }
+{
+    EVERYTHING
 }

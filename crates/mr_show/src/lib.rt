@@ -1,17 +1,24 @@
 //! The body of `mirace_show`'s top call: a run as people read it.
 //!
 //! - [`mirace_show`]: does what the words ask for: `steps P S [FIRST LAST]`, `json P S`, `races P S`, `rust P S`,
-//!   `picture P S [FIRST LAST]`, `order P S FIRST LAST`, `races T PLACES`, `rust T [PLACES]`, `steps T PLACES [FIRST LAST]`, `steps T FIRST LAST`,
+//!   `picture P S [FIRST LAST]`, `order P S FIRST LAST`, `witness P S J [short]`, `races T PLACES`, `rust T [PLACES]`,
+//!   `steps T PLACES [FIRST LAST]`, `steps T FIRST LAST`,
 //!   `picture T PLACES [FIRST LAST]`, `next P S`, `check P [S]`, `fill P O`, `halt P O`, `hunt P FROM TO M [AIM]`,
 //!   `draw P N M`, `why CODE` or `--help`. Over files that tell what they hold: what is written is the answer by
 //!   definition (`specs/Answer.antt`), or a read failed, which the files counted, or memory ran out before anything was
 //!   written. Of a program and a legal schedule of it the answer is the text of its run (`mr_listing`): of the steps of
-//!   the machine, each at its place in the program's text, all of it as JSON (`mr_json`), or of its races, also by Rust's own order (`mr_two_orders`);
-//!   or its picture, or how two of its steps are ordered (`mr_picture`); of a trace its races, its steps or its picture
-//!   (`mr_traced`), where the first file of `races`, `rust`, `steps` or `picture` holds one; of a program, or of a schedule of it, what refuses it (`mr_refusals`); of
-//!   a code it is what is said of the rule or the reason (`mr_why`); of many numbers what the runs that are drawn from
-//!   them show (`mr_hunt`), or of one number the schedule (`mr_auto`). Over other files there are texts of which the
-//!   same holds.
+//!   the machine, each at its place in the program's text, all of it as JSON (`mr_json`), or of its races, also by
+//!   Rust's own order (`mr_two_orders`); or its picture, or how two of its steps are ordered (`mr_picture`), or the
+//!   schedule that shows the race of a step (`mr_run`), where the machine reports one under it; of a trace its races,
+//!   its steps or its picture (`mr_traced`), where the first file of `races`, `rust`, `steps` or `picture` holds one; of
+//!   a program, or of a schedule of it, what refuses it (`mr_refusals`); of a code it is what is said of the rule or the
+//!   reason (`mr_why`); of many numbers what the runs that are drawn from them show (`mr_hunt`), or of one number the
+//!   schedule (`mr_auto`). Over other files there are texts of which the same holds.
+//!
+//! Laws: [`listed_races_are_told`] (of a race that is listed `witness P S J` writes the schedule where this breaks no
+//! rule and its run ends in a data race, and that an earlier race is in its way where not),
+//! [`other_steps_race_with_none`] (a step for which none is listed has no partner, and this is written),
+//! [`first_race_is_shown`] (of the first race it writes the schedule).
 //!
 //! Files, refusals and the writing of an answer are those of `mirace` (`mr_input`), and so are the lines of broken
 //! rules and the status of a run (`mr_answer`).
@@ -38,16 +45,18 @@ mod placed;
 mod sentences;
 mod shown;
 mod traced;
+mod witness;
 
 use crate::answer::answer;
 use crate::form::{Form, form_of};
 use mr_input::{finish, refuse};
 use mr_io::{Files, Sink};
 use std::alloc::Global;
+pub use witness::{first_race_is_shown, listed_races_are_told, other_steps_race_with_none};
 
 const USAGE: &[u8] = b"\
 usage: steps P S [FIRST LAST] | json P S | races P S | rust P S | picture P S [FIRST LAST] | \
-order P S FIRST LAST | races T PLACES | rust T [PLACES] | steps T PLACES [FIRST LAST] | \
+order P S FIRST LAST | witness P S J [short] | races T PLACES | rust T [PLACES] | steps T PLACES [FIRST LAST] | \
 steps T FIRST LAST | picture T PLACES [FIRST LAST] | \
 next P S | check P [S] | fill P O | halt P O | hunt P FROM TO M [AIM] | draw P N M | why CODE | --help
 ";

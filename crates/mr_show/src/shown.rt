@@ -10,11 +10,13 @@ ghost use Rattle.mr_run.specs.Runs.{HasPlace, RunAnswer, are_of_first};
 ghost use Rattle.mr_show.specs.Answer.{answer_under, drawn_between, first_rows, next_under, ran_answer};
 ghost use Rattle.mr_show.specs.Answer.{IsOfRaces, ran_under, told_for};
 ghost use Rattle.mr_show.specs.Answering.{IsOfFile, IsOfProgram, IsOfText, IsToldAs};
+ghost use Rattle.mr_show.specs.Witness.{witness_under};
 
 use crate::filled::filled_file;
 use crate::form::{ALL, Part, Saying};
 use crate::laid::laid;
 use crate::next::next_run;
+use crate::witness::witness_run;
 use mr_answer::refusal_of;
 use mr_ast::Program;
 use mr_input::{Refusal, Written, answered, form_answer, program_of, read_schedule, read_text};
@@ -22,7 +24,7 @@ use mr_io::Files;
 use mr_labels::{Allocation, Stand, ToldStep, start_rows};
 use mr_picture::Span;
 use mr_replay::{Between, stands, tell};
-use mr_run::{Clocked, Nothing, RunFault, is_of_first, run};
+use mr_run::{Clocked, Nothing, RunFault, Selection, is_of_first, run};
 use mr_sched::{Schedule, Version};
 use mr_start::start_asks;
 use mr_step::Machine;
@@ -138,6 +140,9 @@ fn shown_schedule<F: Files>(
         Saying::OfRun(part) => ran_file(alloc, files, part, text, p, schedule),
         Saying::Next => next_file(alloc, files, text, p, schedule),
         Saying::OfOrder(filling) => filled_file(alloc, files, filling, p, schedule),
+        Saying::Witness { step, selection } => {
+            witness_file(alloc, files, step, selection, p, schedule)
+        }
     }
 }
 
@@ -194,6 +199,34 @@ fn next_file<F: Files>(
 {
     match read_schedule(alloc, files, schedule) {
         Ok(read) => next_run(alloc, text, p, read.version, &read.schedule),
+        Err(refusal) => Err(refusal),
+    }
+}
+
+// The schedule that shows the race of a step of the run of a program under the schedule in a file.
+fn witness_file<F: Files>(
+    alloc: Global,
+    files: &mut F,
+    step: u32,
+    selection: Selection,
+    p: &Checked,
+    schedule: &str,
+) -> Result<Written, Refusal>
+    ensures same { F.told files.new ≡ F.told files.old }
+    ensures reads { F.reads files.new ≤ F.reads files.old + 1 }
+    ensures faults { F.faults files.old ≤ F.faults files.new }
+    ensures answer { (contents : Contents) → F.told files.old ≡ Some contents
+        → TellsOrUnread (Rose (F.faults files.old) (F.faults files.new))
+        (told (witness_under step selection p.now) (schedule_in (contents schedule.now))) result }
+    ensures status { IfOk result (λ a. IsStatus a.status) }
+    ensures texts { F.told files.old ≡ None → (schedule : List ℕ)
+        × TellsOrUnread (Rose (F.faults files.old) (F.faults files.new))
+        (told (witness_under step selection p.now) (schedule_in (Some schedule))) result }
+    ensures untold { F.told files.old ≡ None → IsUnreadFault result
+        → Rose (F.faults files.old) (F.faults files.new) }
+{
+    match read_schedule(alloc, files, schedule) {
+        Ok(read) => witness_run(alloc, step, selection, p, &read),
         Err(refusal) => Err(refusal),
     }
 }
@@ -317,9 +350,10 @@ fn ran_stands(
     )
 }
 
-// Whether a part tells of races alone. One of which it says no is told in the same way, with more kept of the run.
+// Whether a part tells of races alone. Any other is told of the run with more kept of it.
 fn lists_races(part: Part) -> bool
-    ensures { IsTrue result → IsOfRaces part }
+    ensures yes { IsTrue result → IsOfRaces part }
+    ensures all { IsOfRaces part → IsTrue result }
 {
     match part {
         Part::Races => true,

@@ -62,9 +62,9 @@ drawn_step s number = record {
 abbrev pub drawn_steps : Seen → Span → List Drawn
 drawn_steps s span = map (drawn_step s) (steps_in span)
 
--- a trace as it is drawn; below it stands how many races it has
+-- a trace as it is drawn: its threads have no names, and below it stands how many races it has
 abbrev pub sketch_of : Seen → Sketch
-sketch_of s = record { count = length s.run; feet = s.run; races = s.races; tail = count_line s.races }
+sketch_of s = record { count = length s.run; feet = s.run; races = s.races; names = []; tail = count_line s.races }
 
 -- these steps of a trace
 abbrev pub span_text : Seen → Span → List ℕ

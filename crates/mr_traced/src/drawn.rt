@@ -159,6 +159,7 @@ fn span_text(alloc: Global, shown: &Shown<'_>, span: Span) -> Result<Vec<u8>, Ou
         count: shown.run.len(),
         feet: shown.run,
         races: shown.races,
+        names: &[],
         tail: tail.as_slice(),
     };
     sketched(alloc, &sketch, &order, span, steps.as_slice())

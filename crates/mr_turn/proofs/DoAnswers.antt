@@ -25,6 +25,7 @@ use Rattle.mr_frame.specs.Effects.{argued, finished as ended}
 use Rattle.mr_intr.specs.Effects as Effects
 use Rattle.mr_start.specs.Steps.{Own, Turn, finishing, last_payload, planned as plan_behind, with_stack}
 use Rattle.mr_turn.specs.declared.deed.TurnFault.TheVariants as answer
+use Rattle.mr_turn.specs.Turning.{TellsDeed}
 use Rattle.mr_turn.proofs.DoTurns.{argued_planned, argued_turned, by_operation, finishing_run, operation_needs, operation_turned, plan_is}
 
 -- a step that stops before it has a plan needs no pick, and may have none
@@ -168,6 +169,11 @@ module _ (look : KeptLook) (stack : KeptStack) (s : Scene) (x : Tables) (call : 
 pub ended_refused : (f : MemoryFault) (o : Outcome Stack World) (k : Stack) (w : World) (last : Option Reached) (IsSo : Deed → Type 0) → TellsBy {X = Unit {0}} (λ u. k) (Err f) o w last → EndAnswer (Err (fault_from f)) o k w last IsSo
 ended_refused (memory_fault.Undefined r) o k w last IsSo h = h
 ended_refused memory_fault.Memory o k w last IsSo h = tt
+
+-- a deed that is so, of an intrinsic that ended
+pub told_ends : (r : Result Deed TurnFault) (o : Outcome Stack World) (k : Stack) (w : World) (last : Option Reached) (IsSo : Deed → Type 0) → o ≡ Went k w → TellsDeed r IsSo → EndAnswer r o k w last IsSo
+told_ends (Ok d) o k w last IsSo went h = (went, h)
+told_ends (Err e) o k w last IsSo went h = subst (λ (g : TurnFault). EndAnswer (Err g) o k w last IsSo) (sym h) tt
 
 -- what is found out of a deed by its end
 pub end_is_deed : (r : Result Deed TurnFault) (inner : Outcome Stack World) (k : Stack) (w : World) (last : Option Reached) (IsSo W : Deed → Type 0) (o : Outcome Turn (Shared × Notes))

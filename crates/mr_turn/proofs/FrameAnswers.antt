@@ -11,6 +11,7 @@ use Rattle.mr_frame.specs.Effects.{asked, asks_of, planned as frame_planned}
 use Rattle.mr_frame.specs.declared.look.Look.{Look as KeptLook}
 use Rattle.mr_frame.specs.declared.stack.Stack.{Stack as KeptStack}
 use Rattle.mr_turn.specs.declared.deed.TurnFault.TheVariants as answer
+use Rattle.mr_turn.specs.Turning.{TellsDeed}
 use Rattle.mr_turn.proofs.FrameTurns.{frame_needs}
 use Rattle.mr_turn.proofs.PlanAsks.{AreAddresses, IsPlain, WentSo, frame_plain, led, same_statuses}
 
@@ -23,6 +24,12 @@ deed_is_turn (Ok d) fault o last W same e h = (e, h)
 deed_is_turn (Err (answer.Broken f)) fault o last W same e h = absurd h
 deed_is_turn (Err (answer.Undefined r)) fault o last W same e h = (e, h)
 deed_is_turn (Err answer.Memory) fault o last W same e h = tt
+
+-- a deed that is so, of a step whose picks were judged
+pub deed_answers : (r : Result Deed TurnFault) (o : Outcome Turn (Shared × Notes)) (last : Option Reached) (IsSo W : Deed → Type 0)
+    → ((d : Deed) → IsSo d → W d) → TellsDeed r IsSo → DeedAnswer r o last W
+deed_answers (Ok d) o last IsSo W f h = f d h
+deed_answers (Err e) o last IsSo W f h = subst (λ (g : TurnFault). DeedAnswer (Err g) o last W) (sym h) tt
 
 -- what else follows of a deed, and where an entry is refused
 pub turn_as : (r : Result Deed TurnFault) (fault : Option Fault) (o : Outcome Turn (Shared × Notes)) (last : Option Reached) (W V : Deed → Type 0) (A B : Type 0)

@@ -174,6 +174,11 @@ DeedAnswer (Err (answer.Broken e)) o last Went' = ⊥
 DeedAnswer (Err (answer.Undefined r)) o last Went' = o ≡ Refused (stop_with last r)
 DeedAnswer (Err answer.Memory) o last Went' = Unit {0}
 
+-- a deed that is so, unless memory ran out
+abbrev pub TellsDeed : Result Deed TurnFault → (Deed → Type 0) → Type 0
+TellsDeed (Ok d) IsSo = IsSo d
+TellsDeed (Err e) IsSo = e ≡ answer.Memory
+
 -- ---- of a thread with this stack, scene and tables
 
 -- the rule that the picks break, and what its step comes to

@@ -1,10 +1,10 @@
 //! The turn of a thread whose next step is an intrinsic.
-ghost use Rattle.std.specs.Prelude.{◌≡◌, IfOk, None, Some};
+ghost use Rattle.std.specs.Prelude.{◌≡◌, None, Some};
 ghost use Rattle.mr_intr.specs.Effects.{IsOperation};
 ghost use Rattle.mr_frame.specs.Kept.{look_of, stack_of};
 ghost use Rattle.mr_frame.specs.Operations.{DueDo, next_do};
 ghost use Rattle.mr_turn.specs.Doing.{CanAsk, CanEnd, EndsDo, IsDeed, IsGiven, IsNoted, IsTold, MeetsNeeds, TakesDoStep, TakesDoTurn, do_breaks};
-ghost use Rattle.mr_turn.specs.Turning.{BeginsTurn, JudgeAnswer, TakesTurn};
+ghost use Rattle.mr_turn.specs.Turning.{BeginsTurn, JudgeAnswer, TakesTurn, TellsDeed};
 
 use crate::deed::{Deed, TurnFault};
 use crate::judging::{judged, met, stopped};
@@ -16,7 +16,7 @@ use mr_frame::{DoCall, Flow, Look, Stack};
 use mr_intr::{Effect, Needs, needs_of, operate};
 use mr_sync::SyncTable;
 use mr_value::Val;
-use std::alloc::{AllocError, Global};
+use std::alloc::Global;
 
 /// The turn of a thread whose next step is this intrinsic: what it is given comes first.
 #[inline(never)]
@@ -189,7 +189,7 @@ fn end_told(
 {
     match stack.finish(alloc, look, s, call, effect.value.as_ref()) {
         Err(fault) => Err(TurnFault::from(fault)),
-        Ok(()) => Ok(told(alloc, op, effect.event, effect.woken, text)?),
+        Ok(()) => told(alloc, op, effect.event, effect.woken, text),
     }
 }
 
@@ -200,8 +200,8 @@ fn told(
     event: Event,
     awakened: Option<u32>,
     text: Vec<u8>,
-) -> Result<Deed, AllocError>
-    ensures { IfOk result (IsDeed op event awakened text.items) }
+) -> Result<Deed, TurnFault>
+    ensures { TellsDeed result (IsDeed op event awakened text.items) }
 {
     let mut woken = Vec::new(alloc);
     if let Some(thread) = awakened {

@@ -1,10 +1,10 @@
 //! The turn of a thread whose next step is a statement or a terminator that is no intrinsic.
-ghost use Rattle.std.specs.Prelude.{◌≡◌, IfOk, None};
+ghost use Rattle.std.specs.Prelude.{◌≡◌, None};
 ghost use Rattle.mr_sync.specs.Tables.{IsEnabled};
 ghost use Rattle.mr_frame.specs.Acting.{AreLawful};
 ghost use Rattle.mr_frame.specs.Kept.{look_of, stack_of};
 ghost use Rattle.mr_frame.specs.Operations.{next_do};
-ghost use Rattle.mr_turn.specs.Turning.{BeginsTurn, IsFlow, IsJudged, TakesStep, TakesTurn, breaks};
+ghost use Rattle.mr_turn.specs.Turning.{BeginsTurn, IsFlow, IsJudged, TakesStep, TakesTurn, TellsDeed, breaks};
 
 use crate::deed::{Deed, TurnFault};
 use crate::judging::judged;
@@ -12,12 +12,12 @@ use mr_base::Event;
 use mr_eval::Scene;
 use mr_frame::{Flow, Look, Stack};
 use mr_sync::SyncTable;
-use std::alloc::{AllocError, Global};
+use std::alloc::Global;
 
 // A thread goes on, or has ended; its end wakes those that wait for it.
-fn deed_of(alloc: Global, flow: Flow, thread: u32, sync: &mut SyncTable) -> Result<Deed, AllocError>
+fn deed_of(alloc: Global, flow: Flow, thread: u32, sync: &mut SyncTable) -> Result<Deed, TurnFault>
     requires { IsEnabled thread sync.old }
-    ensures { IfOk result (λ d. IsFlow flow thread sync.old sync.new d) }
+    ensures { TellsDeed result (IsFlow flow thread sync.old sync.new) }
 {
     let mut woken = Vec::new(alloc);
     match flow {
@@ -50,7 +50,7 @@ fn take(
     let thread = s.thread;
     match stack.act(alloc, look, s, picks) {
         Err(fault) => Err(TurnFault::from(fault)),
-        Ok(flow) => Ok(deed_of(alloc, flow, thread, sync)?),
+        Ok(flow) => deed_of(alloc, flow, thread, sync),
     }
 }
 

@@ -1,6 +1,7 @@
 -- The short schedule has entries of the kept one alone, and no more.
-use Rattle.mr_witness.proofs.Common.{◌≡◌, ℕ, suc, zero, ◌≤◌, refl, sym, ◌∙◌, ap, subst, arith, List, [], ◌∷◌, ◌++◌, map, length, Bool, true, not, ◌&&◌, inl, inr, ◌⊎◌, length-append, ◌==◌, filter, and_from, and_parts, cases_Bool, length-map, Footprint, kept, selected, HappensBefore, places, happens_before, happens_before_is, not_false, IsAmong, IsFirstPair, short_keeps, short_selects, Each, Each-places, Each-weaker, filter-kept, filter-left_out, Entry, Schedule, entry_at, kept_schedule, short_schedule}
+use Rattle.mr_witness.proofs.Common.{◌≡◌, ℕ, suc, zero, ◌≤◌, refl, sym, ◌∙◌, ap, subst, arith, List, [], ◌∷◌, ◌++◌, map, length, Bool, true, not, ◌&&◌, inl, inr, ◌⊎◌, length-append, ◌==◌, filter, and_from, and_parts, cases_Bool, length-map, Footprint, kept, selected, HappensBefore, places, happens_before, happens_before_is, not_false, IsAmong, short_keeps, short_selects, Each, Each-places, Each-weaker, filter-kept, filter-left_out, Entry, Schedule, entry_at, kept_schedule, short_schedule}
 use Rattle.std.specs.Prelude.{Contains}
+use Rattle.mr_event.specs.Order.{IsGreatestPartner}
 
 -- ---- lists
 
@@ -59,7 +60,7 @@ into_map f (x ∷ xs) e k (inr a) is = let r = into_map f xs e k a is in (suc r.
 
 -- ---- the schedules
 
-module _ (run : List Footprint) (i j : ℕ) (pair : IsFirstPair run i j) where
+module _ (run : List Footprint) (i j : ℕ) (pair : IsGreatestPartner run i j) where
   -- no step of the short witness before the second comes after the first
   stricter : Each (λ k. (short_keeps run i j k && not (k == i)) ≡ true → (not (happens_before run i k) && not (k == i)) ≡ true) (places j)
   stricter =

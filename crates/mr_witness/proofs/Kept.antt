@@ -2,6 +2,7 @@
 use Rattle.mr_witness.proofs.Common.{◌≡◌, ℕ, refl, ◌∙◌, ap, subst, List, ◌∷◌, map, Program, Footprint, kept, step_at, predicted, IsFirstPair, first_of_predicted, Schedule, WellFormed, State, SoundState, Own, thread_step, Legal, run_of, steps_of, look_of, start_config, start_look, start_sound, IsSane, SwapLaw, sound_is_sane, NotesThread, law_of, thread_noted, IsWitness, kept_schedule, schedule_at}
 use Rattle.mr_event.specs.declared.footprint.Pair.{Pair}
 use Rattle.mr_exchange.proofs.Choices.{kept_selects}
+use Rattle.mr_exchange.proofs.First.{partner_of_first}
 use Rattle.mr_base.specs.declared.reason.Verdict.TheVariants as verdict
 use Rattle.mr_witness.proofs.Shown.{ShowsRace, choice_shows}
 
@@ -10,7 +11,7 @@ pub kept_is_witness : (p : Program) (w : Schedule) (law : SwapLaw (thread_step (
     → WellFormed p → Legal p w → (i j : ℕ) → IsFirstPair (steps_of p w) i j → IsWitness p w i j (kept_schedule (steps_of p w) w i j)
 unfolding steps_of run_of start_config look_of kept_schedule
 kept_is_witness p w law noted sane well legal i j first =
-    let shows = choice_shows (look_of p w.start) (start_look p well w.start legal.start) well w.entries law noted sane _ (start_sound p well w.start legal.start _ refl) legal.entries i j _ first (kept_selects (steps_of p w) i j first) in
+    let shows = choice_shows (look_of p w.start) (start_look p well w.start legal.start) well w.entries law noted sane _ (start_sound p well w.start legal.start _ refl) legal.entries i j _ first (kept_selects (steps_of p w) i j (partner_of_first (steps_of p w) i j first)) in
     record {
       front = shows.front;
       from = ap (schedule_at w) shows.ends;

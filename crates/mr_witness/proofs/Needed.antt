@@ -1,9 +1,9 @@
 -- The marks are of the steps that are needed, and these are those of the short witness.
-use Rattle.mr_witness.proofs.Common.{◌≡◌, ℕ, ◌+◌, ◌<◌, ◌≤◌, ◌↔◌, refl, sym, ◌∙◌, ap, subst, arith, List, [], ◌∷◌, ◌++◌, Bool, true, false, IsTrue, length, length-append, get_or, All, inl, inr, ℕ_discrete, and_parts, both_ways, cases_Bool, eq-eqb, eqb-true, or_left, or_right, get_or_default, Footprint, HappensBefore, happens_before, happens_before_is, IsFirstPair, short_keeps, short_selects, AreEnds, AreMarks, AreRivalsBelow}
+use Rattle.mr_witness.proofs.Common.{◌≡◌, ℕ, ◌+◌, ◌<◌, ◌≤◌, ◌↔◌, refl, sym, ◌∙◌, ap, subst, arith, List, [], ◌∷◌, ◌++◌, Bool, true, false, IsTrue, length, length-append, get_or, All, inl, inr, ℕ_discrete, and_parts, both_ways, cases_Bool, eq-eqb, eqb-true, or_left, or_right, get_or_default, Footprint, HappensBefore, happens_before, happens_before_is, short_keeps, short_selects, AreEnds, AreMarks, AreRivalsBelow}
 use Rattle.std.proofs.Common.{slice_index}
 use Rattle.std.proofs.lemmas.Bool.{or_cases}
 use Rattle.std.proofs.lemmas.List.{get_or_append_left, get_or_push}
-use Rattle.mr_event.specs.Order.{AreRivals}
+use Rattle.mr_event.specs.Order.{AreRivals, IsGreatestPartner}
 use Rattle.mr_event.specs.Order.Edge.{woken}
 use Rattle.mr_event.specs.Order.HappensBefore.{edge}
 use Rattle.mr_event.proofs.Tests.{any_range, race_pair_is}
@@ -97,7 +97,7 @@ marks_told run j ends marks h wide told = record {
 
 -- ---- the steps of the short witness
 
-module _ (run : List Footprint) (i j : ℕ) (pair : IsFirstPair run i j) where
+module _ (run : List Footprint) (i j : ℕ) (pair : IsGreatestPartner run i j) (within : j < length run) where
   first_end : IsEnd run j i
   first_end = inr (pair.pair.before, (pair.pair.races.apart, pair.pair.races.race))
 
@@ -153,6 +153,6 @@ module _ (run : List Footprint) (i j : ℕ) (pair : IsFirstPair run i j) where
   -- THE MARKED STEPS are those of the short witness
   pub marked_kept : (marks : List Bool) → AreMarks run j marks → (k : ℕ) → k < j → get_or marks k false ≡ short_keeps run i j k
   marked_kept marks h k lt =
-      let inside = pair.within in
+      let inside = within in
       let here = h.each k (omega (arith, lt, inside)) in
       same_truth _ _ (λ e. needed_kept k (here.0 e)) (λ e. here.1 (kept_needed k e))

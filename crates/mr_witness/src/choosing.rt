@@ -1,6 +1,7 @@
 //! The choice of a witness's entries, which are copied from the recorded schedule.
 
 ghost use Rattle.std.specs.Prelude.{◌≡◌, ◌<◌, ◌≤◌, ◌∷◌, ◌&&◌, ◌==◌, not, false, List, IfOk, length, map, slice_index_or};
+ghost use Rattle.std.specs.Prelude.{Contains};
 ghost use Rattle.std.specs.List.{filter};
 ghost use Rattle.mr_ast.specs.declared.program.Program.{Program};
 ghost use Rattle.mr_event.specs.declared.footprint.Pair.{Pair as PairOf};
@@ -58,8 +59,9 @@ fn unmarked(
     Ok(chosen)
 }
 
-/// The witness for the first race of a run, of which this is the schedule: of the entries before the race's second step
-/// those that its first step doesn't happen before, in recorded order, and then those of the two steps.
+/// The kept schedule for a race of a run, of which this is the schedule: of the entries before the race's second step
+/// those that its first step doesn't happen before, in recorded order, and then those of the two steps. For the first
+/// race of the run it is a witness.
 pub fn witness(
     alloc: Global,
     run: &[Footprint],
@@ -67,10 +69,11 @@ pub fn witness(
     pair: Pair,
 ) -> Result<Schedule, OutOfMemory>
     requires many { length run.now ≤ length s.now.entries }
-    requires first { (rest : List PairOf) × (predicted run.now ≡ pair ∷ rest) }
+    requires listed { Contains (predicted run.now) pair }
     ensures kept { IfOk result (λ v. v ≡ kept_schedule run.now s.now pair.first pair.second) }
     ensures witness { IfOk result (λ v. (p : Program) → WellFormed p → Legal p s.now
-        → steps_of p s.now ≡ run.now → IsWitness p s.now pair.first pair.second v) }
+        → steps_of p s.now ≡ run.now → (rest : List PairOf) → predicted run.now ≡ pair ∷ rest
+        → IsWitness p s.now pair.first pair.second v) }
 {
     let marked = follows(alloc, run, pair.first)?;
     let recorded = s.entries.as_slice();

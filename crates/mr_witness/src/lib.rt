@@ -1,16 +1,18 @@
 //! Runs in another order: the witness for a race, a shorter one, and another order of a run without races. (This project's;
 //! Mazurkiewicz: traces.) A witness is a rearranged part of a run that brings the machine to the two racing steps side by side.
 //!
-//! - [`witness`]: the entries that a race's first step doesn't happen before, in recorded order, and then those of the two
-//!   steps. Proved: the answer is that schedule, and of each well-formed program whose run under the recorded schedule
-//!   this is, it is a witness (`mr_exchange`: `specs/Witness.antt`): legal, of each thread the first entries, each step the one that it
-//!   was in the run, and behind the last the machine reports the data race. Want of memory is its only error.
-//! - [`short`]: of the entries before the race's second step those of the steps that happen before one of its two steps,
-//!   those of the second step's partners, and those of the steps that happen before a partner; in recorded order, and then
-//!   those of the two steps. Proved: the answer is that schedule (`specs/Short.antt`); of each well-formed program whose run
-//!   under the recorded schedule this is, it is a witness; each of its entries is one of the kept schedule, and
-//!   it has at most as many. Want of memory is its only error. It compares the second step with each earlier one, and finds
-//!   what happens before by the clocks of the run (`mr_clocks`), in one pass.
+//! - [`witness`]: for one of a run's races the entries that its first step doesn't happen before, in recorded order,
+//!   and then those of the two steps. Proved: the answer is that schedule, and for the first race, of each
+//!   well-formed program whose run under the recorded schedule this is, it is a witness (`mr_exchange`:
+//!   `specs/Witness.antt`): legal, of each thread the first entries, each step the one that it was in the run, and
+//!   behind the last the machine reports the data race. Want of memory is its only error.
+//! - [`short`]: of the entries before the race's second step those of the steps that happen before one of its two
+//!   steps, those of the second step's partners, and those of the steps that happen before a partner; in recorded
+//!   order, and then those of the two steps. Proved: the answer is that schedule (`specs/Short.antt`); for the first
+//!   race, of each well-formed program whose run under the recorded schedule this is, it is a witness; each of its
+//!   entries is one of the kept schedule, and it has at most as many. Want of memory is its only error. It compares
+//!   the second step with each earlier one, and finds what happens before by the clocks of the run (`mr_clocks`), in
+//!   one pass.
 //! - [`shuffle`]: a schedule that takes the recorded steps of a run in which no race is listed in an order that is drawn from a
 //!   number (`specs/Shuffled.antt`): the same result, step by step. Proved: the answer is that schedule, its steps are a
 //!   rearrangement of the run, and of each well-formed program whose run under the recorded schedule this is, with no race

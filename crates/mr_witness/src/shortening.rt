@@ -76,9 +76,10 @@ fn chosen(
     Ok(copies)
 }
 
-/// The short witness for the first race of a run, of which this is the schedule: of the entries before the race's second step
-/// those of the steps that happen before one of its steps, of the second step's partners, and of those that happen before a
-/// partner, in recorded order, and then those of the two steps.
+/// The short schedule for a race of a run, of which this is the schedule: of the entries before the race's second
+/// step those of the steps that happen before one of its steps, of the second step's partners, and of those that
+/// happen before a partner, in recorded order, and then those of the two steps. For the first race of the run it is a
+/// witness.
 pub fn short(
     alloc: Global,
     run: &[Footprint],
@@ -86,10 +87,11 @@ pub fn short(
     pair: Pair,
 ) -> Result<Schedule, OutOfMemory>
     requires many { length run.now ≤ length s.now.entries }
-    requires first { (rest : List PairOf) × (predicted run.now ≡ pair ∷ rest) }
+    requires listed { Contains (predicted run.now) pair }
     ensures short { IfOk result (λ v. v ≡ short_schedule run.now s.now pair.first pair.second) }
     ensures witness { IfOk result (λ v. (p : Program) → WellFormed p → Legal p s.now
-        → steps_of p s.now ≡ run.now → IsWitness p s.now pair.first pair.second v) }
+        → steps_of p s.now ≡ run.now → (rest : List PairOf) → predicted run.now ≡ pair ∷ rest
+        → IsWitness p s.now pair.first pair.second v) }
     ensures among { IfOk result (λ v. (e : EntryOf) → Contains v.entries e
         → Contains (kept_schedule run.now s.now pair.first pair.second).entries e) }
     ensures no_longer { IfOk result

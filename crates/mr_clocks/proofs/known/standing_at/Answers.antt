@@ -3,4 +3,4 @@ use Rattle.mr_clocks.proofs.known.standing_at.Goals as goal
 
 pub returns-then-is_latest_known-clause-seen : goal.returns-then-is_latest_known-clause-seen
 returns-then-is_latest_known-clause-seen c = λ _.
-    known_place c.args.run.now c.args.rows.now c.args.links.now c.args.x c.args.j c.args.clock.now c.requires.rows (c.is_latest_known.ensures.known c.if-is_latest_known.true)
+    known_place c.args.run.now c.args.rows.now c.args.links.now c.args.x c.args.j c.args.clock.now c.requires.rows c.requires.part (c.is_latest_known.ensures.known c.if-is_latest_known.true)

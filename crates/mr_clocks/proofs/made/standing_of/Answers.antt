@@ -18,6 +18,11 @@ lent-clock-requires-clause-within c =
     let step = latest_step c.args.run.now c.args.j c.args.latest.now c.thread_at.result c.at-next.result c.requires.latest c.at-next.ensures c.if-next-eq0.false in
     c.requires.clocks.within (c.at-next.result - 1) step.0
 
+pub standing_to-requires-clause-part : goal.standing_to-requires-clause-part
+standing_to-requires-clause-part c =
+    let is_next = c.at-next.ensures ∙ ap (slice_index c.args.latest.now) c.thread_at.ensures in
+    part_of_latest c.args.run.now c.args.j c.args.clocks.now c.args.numbers.now c.args.latest.now c.lent-clock.result.now c.at-next.result c.requires.clocks c.requires.latest is_next c.if-next-eq0.false c.lent-clock.ensures
+
 pub returns-clause-settled : goal.returns-clause-settled
 returns-clause-settled c = λ settled.
     let run = c.args.run.now in

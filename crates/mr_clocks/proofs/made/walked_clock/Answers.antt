@@ -54,13 +54,13 @@ loop-y-preserved c =
       woken = λ m s apart. w.kept m (i.woken m s apart);
       seen = λ z lt. elim (ℕ_discrete z c.loop-y.y) [
         | yes is ↦ subst (λ (q : ℕ). IsPlaceSeen c.args.run.now rows links (slice_index found q) new c.args.j) (sym is) w.seen
-        | no ne ↦ λ inside apart it_asks none k here e counts. w.kept (step_of links k) (i.seen z (omega (arith, lt, ne)) inside apart it_asks none k here e counts)
+        | no ne ↦ λ inside it_asks none k here apart e counts. w.kept (step_of links k) (i.seen z (omega (arith, lt, ne)) inside it_asks none k here apart e counts)
       ];
       same = λ none p e. w.same (c.is_either-changed.ensures.other none) ∙ i.same (c.is_either-changed.ensures.one none) p e;
       left = w.left;
       known = λ all z lt. elim (ℕ_discrete z c.loop-y.y) [
-        | yes is ↦ subst (λ (q : ℕ). IsPlaceKnown rows links (slice_index found q) new) (sym is) (w.known (c.is_both-alone.ensures.other all))
-        | no ne ↦ known_stays c.args.run.now rows links (slice_index found z) c.args.j c.loop-y.clock new c.requires.rows w.kept (i.known (c.is_both-alone.ensures.one all) z (omega (arith, lt, ne)))
+        | yes is ↦ subst (λ (q : ℕ). IsPlaceKnown c.args.run.now rows links (slice_index found q) new c.args.j) (sym is) (w.known (c.is_both-alone.ensures.other all))
+        | no ne ↦ known_stays c.args.run.now rows links (slice_index found z) c.args.j c.loop-y.clock new w.kept (i.known (c.is_both-alone.ensures.one all) z (omega (arith, lt, ne)))
       ];
     }
 

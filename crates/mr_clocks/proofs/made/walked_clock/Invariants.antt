@@ -9,5 +9,5 @@ invariant-loop-y l =
       seen : (z : ℕ) → z < l.y → IsPlaceSeen l.run l.rows l.links (slice_index l.found z) l.clock l.j;
       same : IsFalse l.changed → (p : ℕ) → slice_index l.latest (thread_at l.run l.j) ≡ p + 1 → l.clock ≡ clock_at l.clocks l.numbers p;
       left : AreSkips l.run l.j l.links l.left.items;
-      known : IsTrue l.alone → (z : ℕ) → z < l.y → IsPlaceKnown l.rows l.links (slice_index l.found z) l.clock;
+      known : IsTrue l.alone → (z : ℕ) → z < l.y → IsPlaceKnown l.run l.rows l.links (slice_index l.found z) l.clock l.j;
     }

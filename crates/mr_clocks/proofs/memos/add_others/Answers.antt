@@ -1,4 +1,5 @@
-use Rattle.mr_clocks.proofs.Common.{◌≢◌, ◌≡◌, ℕ, ◌<◌, true, length, subst, sym, arith, ℕ_discrete, asks, IsListed, row_at}
+use Rattle.mr_clocks.proofs.Common.{◌≡◌, ℕ, ◌<◌, true, length, subst, sym, arith, ℕ_discrete, asks, IsListed, row_at}
+use Rattle.mr_clocks.specs.Rows.{IsOwn}
 use Rattle.mr_clocks.proofs.memos.add_others.Goals as goal
 
 pub loop-x-init : goal.loop-x-init
@@ -17,7 +18,7 @@ loop-x-preserved c =
       kept = λ z t. c.add_asked.ensures.kept z (i.kept z t);
       here = λ y low less. elim (ℕ_discrete y c.loop-x.x) [
         | yes is ↦
-            subst (λ (q : ℕ). q < length rows → (row_at rows q).thread ≢ step.thread → asks step (row_at rows q).key ≡ true → IsListed new q) (sym is)
+            subst (λ (q : ℕ). q < length rows → (IsOwn (row_at rows q) step.thread → ⊥) → asks step (row_at rows q).key ≡ true → IsListed new q) (sym is)
             (λ inside apart it_asks. c.in_ok-add_asked.ensures.here (record { within = inside; apart = apart; asked = it_asks }))
         | no ne ↦ λ inside apart it_asks. c.add_asked.ensures.kept y (i.here y low (omega (arith, less, ne)) inside apart it_asks)
       ];

@@ -1,4 +1,5 @@
-use Rattle.mr_clocks.proofs.Common.{slice_index, refl, arith}
+use Rattle.mr_clocks.proofs.Common.{slice_index, refl, arith, ℕ, subst}
+use Rattle.mr_clocks.specs.Rows.{IsNoted}
 use Rattle.mr_clocks.proofs.Noting.{keys_same, longer_more, longer_none, noted_more, partly_ends, partly_start}
 use Rattle.mr_clocks.proofs.rows.note_all.Goals as goal
 
@@ -29,7 +30,8 @@ note-requires-clause-last c =
 pub loop-y-preserved : goal.loop-y-preserved
 loop-y-preserved c =
     let i = c.loop-y.invariant in
-    let n = c.note.ensures.noted in
+    let place = slice_index c.args.places.now c.loop-y.y in
+    let n = subst (λ (t : ℕ). IsNoted c.loop-y.rows.items c.loop-y.links.items place c.args.j t c.note.new.rows.items c.note.new.links.items) c.thread_at-thread.ensures c.note.ensures.noted in
     let more = noted_more c.args.run.now c.args.j c.loop-y.y c.args.rows.now.items c.loop-y.rows.items c.note.new.rows.items c.loop-y.links.items c.note.new.links.items c.args.places.now
     i.partly c.requires.places i.keys c.loop-y-test.true n i.noted in
     record {

@@ -6,5 +6,5 @@ use Rattle.mr_picture.proofs.partners.push_partner.Goals as goal
 pub returns : goal.returns
 unfolding partner_text
 returns c =
-    last_behind c.push_count.result c.args.out.now.items (codes "\nraces with step ") (decimal (c.args.step + 1)) _ _
+    last_behind c.push_count.result c.args.out.now.items (codes ", ") (decimal (c.args.step + 1)) _ _
     c.in_ok-push.ensures c.push_count.ensures

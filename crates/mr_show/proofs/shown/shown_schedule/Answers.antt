@@ -17,3 +17,9 @@ returns-in-OfOrder-clause-answer g c = λ contents told. rw c.in-OfOrder.is (c.f
 
 pub returns-in-OfOrder-clause-texts : goal.returns-in-OfOrder-clause-texts
 returns-in-OfOrder-clause-texts g c = λ untold. rw c.in-OfOrder.is (c.filled_file.ensures.texts untold)
+
+pub returns-in-Witness-clause-answer : goal.returns-in-Witness-clause-answer
+returns-in-Witness-clause-answer g c = λ contents told. rw c.in-Witness.is (c.witness_file.ensures.answer contents told)
+
+pub returns-in-Witness-clause-texts : goal.returns-in-Witness-clause-texts
+returns-in-Witness-clause-texts g c = λ untold. rw c.in-Witness.is (c.witness_file.ensures.texts untold)
