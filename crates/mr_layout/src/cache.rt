@@ -90,7 +90,8 @@ impl<'p> Cache<'p> {
         }
     }
 
-    // The same where the type isn't told at once.
+    // The same where the type isn't told at once. As a call of its own it costs nothing where the type is an integer.
+    #[inline(never)]
     fn held_layout(&self, t: &Ty) -> Layout
         requires { TypeOk t.now }
         ensures { result ≡ layout_of t.now }
@@ -123,6 +124,7 @@ fn position<'a>(entries: &IndexMap<&'a Ty, Layout, TextKey>, t: &'a Ty) -> Optio
 }
 
 // The layout of a type.
+#[inline(never)]
 #[tactic(auto, using(crate::proofs::Bounds::type_ok_size))]
 fn defined_layout(t: &Ty) -> Layout
     requires { TypeOk t.now }

@@ -216,6 +216,7 @@ impl Memory {
     }
 
     /// Stores initialised bytes with these numbers and one provenance, as [`Memory::store`] stores them.
+    #[inline(always)]
     pub fn store_numbers(
         &mut self,
         p: Pointer,

@@ -61,6 +61,7 @@ fn pointer_numbers(pointer: Pointer) -> ScalarBytes
 }
 
 /// The bytes that an integer, a bool or a pointer is written as. It takes no memory.
+#[inline(always)]
 #[tactic(auto, using(crate::proofs::EncodeLaws::encode_laws))]
 pub fn encode_scalar(v: &Val, t: &Ty) -> ScalarBytes
     requires ok { TypeOk t.now }
