@@ -38,20 +38,68 @@ pub fn placed<'p>(here: &Here<'p>, notes: &mut Notes, place: &'p Place) -> Resul
 {
     match place {
         Place::Local(x) => local(here.locals, here.storage, *x),
-        Place::Deref(pointer, ty) => {
-            let v = valued(here, notes, pointer.get())?;
-            target(v.value, ty)
-        }
-        Place::Field(whole, number) => {
-            let p = placed(here, notes, whole.get())?;
-            field(here.memory, notes, p, *number)
-        }
+        Place::Deref(pointer, ty) => pointed_place(here, notes, pointer.get(), ty),
+        Place::Field(whole, number) => field_place(here, notes, whole.get(), *number),
         Place::Index(array, index) => indexed_place(here, notes, array.get(), index.get()),
-        Place::Variant(whole, number) => {
-            let p = placed(here, notes, whole.get())?;
-            Ok(variant(p, *number))
-        }
+        Place::Variant(whole, number) => variant_place(here, notes, whole.get(), *number),
     }
+}
+
+// The target of the pointer that a value is.
+#[cycle(evaluated)]
+#[tactic(auto, using(crate::proofs::EvalRuns::eval_laws, crate::proofs::SoundParts::sound_laws, crate::proofs::SoundParts::type_facts, crate::proofs::SoundParts::int_fits, mr_typing::proofs::TypeLaws::type_laws, crate::proofs::ExtendsLaws::extends_laws))]
+fn pointed_place<'p>(
+    here: &Here<'p>,
+    notes: &mut Notes,
+    pointer: &'p Value,
+    ty: &'p Ty,
+) -> Result<Placed<'p>, Halt>
+    requires { SoundPlace (surround_of here.now) (Place.Deref pointer.now ty.now) }
+    ensures given { Gives at_pointer result (placed here.now.memory.now (surround_of here.now)
+        (Place.Deref pointer.now ty.now) (seen notes.old)) (seen notes.new) notes.new.refused }
+    ensures ty { IfOk result (λ p. type_of_place here.now.locals.now (Place.Deref pointer.now ty.now) ≡ Some p.ty.now) }
+    ensures kept { Extends (seen notes.old) (seen notes.new) }
+{
+    let v = valued(here, notes, pointer)?;
+    target(v.value, ty)
+}
+
+// A field of a whole.
+#[cycle(evaluated)]
+#[tactic(auto, using(crate::proofs::EvalRuns::eval_laws, crate::proofs::SoundParts::sound_laws, crate::proofs::SoundParts::type_facts, crate::proofs::SoundParts::int_fits, mr_typing::proofs::TypeLaws::type_laws, crate::proofs::ExtendsLaws::extends_laws))]
+fn field_place<'p>(
+    here: &Here<'p>,
+    notes: &mut Notes,
+    whole: &'p Place,
+    number: u64,
+) -> Result<Placed<'p>, Halt>
+    requires { SoundPlace (surround_of here.now) (Place.Field whole.now number) }
+    ensures given { Gives at_pointer result (placed here.now.memory.now (surround_of here.now)
+        (Place.Field whole.now number) (seen notes.old)) (seen notes.new) notes.new.refused }
+    ensures ty { IfOk result (λ p. type_of_place here.now.locals.now (Place.Field whole.now number) ≡ Some p.ty.now) }
+    ensures kept { Extends (seen notes.old) (seen notes.new) }
+{
+    let p = placed(here, notes, whole)?;
+    field(here.memory, notes, p, number)
+}
+
+// The same bytes as a variant.
+#[cycle(evaluated)]
+#[tactic(auto, using(crate::proofs::EvalRuns::eval_laws, crate::proofs::SoundParts::sound_laws, crate::proofs::SoundParts::type_facts, crate::proofs::SoundParts::int_fits, mr_typing::proofs::TypeLaws::type_laws, crate::proofs::ExtendsLaws::extends_laws))]
+fn variant_place<'p>(
+    here: &Here<'p>,
+    notes: &mut Notes,
+    whole: &'p Place,
+    number: Num,
+) -> Result<Placed<'p>, Halt>
+    requires { SoundPlace (surround_of here.now) (Place.Variant whole.now number) }
+    ensures given { Gives at_pointer result (placed here.now.memory.now (surround_of here.now)
+        (Place.Variant whole.now number) (seen notes.old)) (seen notes.new) notes.new.refused }
+    ensures ty { IfOk result (λ p. type_of_place here.now.locals.now (Place.Variant whole.now number) ≡ Some p.ty.now) }
+    ensures kept { Extends (seen notes.old) (seen notes.new) }
+{
+    let p = placed(here, notes, whole)?;
+    Ok(variant(p, number))
 }
 
 // The element of an array at the position that a value tells.
@@ -100,10 +148,7 @@ pub fn valued<'p>(here: &Here<'p>, notes: &mut Notes, value: &'p Value) -> Resul
     ensures kept { Extends (seen notes.old) (seen notes.new) }
 {
     match value {
-        Value::Load(place) => {
-            let p = placed(here, notes, place)?;
-            loaded_value(here, notes, p)
-        }
+        Value::Load(place) => load_expression(here, notes, place),
         Value::Int(int, number) => Ok(integer(bits_of_number(*int, *number), *int)),
         Value::True => Ok(typed(Val::Bool(true), Known::Bool)),
         Value::False => Ok(typed(Val::Bool(false), Known::Bool)),
@@ -116,14 +161,8 @@ pub fn valued<'p>(here: &Here<'p>, notes: &mut Notes, value: &'p Value) -> Resul
             Some(p) => Ok(typed(Val::Ptr(behind(p, *offset)), Known::Raw)),
             None => Err(Halt::IllFormed),
         },
-        Value::Disc(place) => {
-            let p = placed(here, notes, place)?;
-            discriminant(here.memory, notes, p)
-        }
-        Value::AddrOf(ty, place) => {
-            let p = placed(here, notes, place)?;
-            Ok(typed(Val::Ptr(p.at), Known::Written(ty)))
-        }
+        Value::Disc(place) => disc_expression(here, notes, place),
+        Value::AddrOf(ty, place) => address_expression(here, notes, ty, place),
         Value::Cast(int, operand) => cast_expression(here, notes, *int, operand.get()),
         Value::Unary(op, operand) => unary_expression(here, notes, *op, operand.get()),
         Value::Variant(ty, number, content) => {
@@ -138,6 +177,62 @@ pub fn valued<'p>(here: &Here<'p>, notes: &mut Notes, value: &'p Value) -> Resul
             binary_expression(here, notes, *op, left.get(), right.get())
         }
     }
+}
+
+// The load of a place.
+#[cycle(evaluated)]
+#[tactic(auto, using(crate::proofs::EvalRuns::eval_laws, crate::proofs::SoundParts::sound_laws, crate::proofs::SoundParts::type_facts, crate::proofs::SoundParts::int_fits, mr_typing::proofs::TypeLaws::type_laws, crate::proofs::ExtendsLaws::extends_laws))]
+fn load_expression<'p>(
+    here: &Here<'p>,
+    notes: &mut Notes,
+    place: &'p Place,
+) -> Result<Valued<'p>, Halt>
+    requires { SoundValue (surround_of here.now) (Value.Load place.now) }
+    ensures given { Gives value_in result (valued here.now.memory.now (surround_of here.now)
+        (Value.Load place.now) (seen notes.old)) (seen notes.new) notes.new.refused }
+    ensures ty { IfOk result (λ v. type_of_value here.now.locals.now (Value.Load place.now) ≡ Some (ty_of v.ty)) }
+    ensures kept { Extends (seen notes.old) (seen notes.new) }
+{
+    let p = placed(here, notes, place)?;
+    loaded_value(here, notes, p)
+}
+
+// The discriminant that a place holds.
+#[cycle(evaluated)]
+#[tactic(auto, using(crate::proofs::EvalRuns::eval_laws, crate::proofs::SoundParts::sound_laws, crate::proofs::SoundParts::type_facts, crate::proofs::SoundParts::int_fits, mr_typing::proofs::TypeLaws::type_laws, crate::proofs::ExtendsLaws::extends_laws))]
+fn disc_expression<'p>(
+    here: &Here<'p>,
+    notes: &mut Notes,
+    place: &'p Place,
+) -> Result<Valued<'p>, Halt>
+    requires { SoundValue (surround_of here.now) (Value.Disc place.now) }
+    ensures given { Gives value_in result (valued here.now.memory.now (surround_of here.now)
+        (Value.Disc place.now) (seen notes.old)) (seen notes.new) notes.new.refused }
+    ensures ty { IfOk result (λ v. type_of_value here.now.locals.now (Value.Disc place.now) ≡ Some (ty_of v.ty)) }
+    ensures kept { Extends (seen notes.old) (seen notes.new) }
+{
+    let p = placed(here, notes, place)?;
+    discriminant(here.memory, notes, p)
+}
+
+// A pointer to a place.
+#[cycle(evaluated)]
+#[tactic(auto, using(crate::proofs::EvalRuns::eval_laws, crate::proofs::SoundParts::sound_laws, crate::proofs::SoundParts::type_facts, crate::proofs::SoundParts::int_fits, mr_typing::proofs::TypeLaws::type_laws, crate::proofs::ExtendsLaws::extends_laws))]
+fn address_expression<'p>(
+    here: &Here<'p>,
+    notes: &mut Notes,
+    ty: &'p Ty,
+    place: &'p Place,
+) -> Result<Valued<'p>, Halt>
+    requires { SoundValue (surround_of here.now) (Value.AddrOf ty.now place.now) }
+    ensures given { Gives value_in result (valued here.now.memory.now (surround_of here.now)
+        (Value.AddrOf ty.now place.now) (seen notes.old)) (seen notes.new) notes.new.refused }
+    ensures ty { IfOk result
+        (λ v. type_of_value here.now.locals.now (Value.AddrOf ty.now place.now) ≡ Some (ty_of v.ty)) }
+    ensures kept { Extends (seen notes.old) (seen notes.new) }
+{
+    let p = placed(here, notes, place)?;
+    Ok(typed(Val::Ptr(p.at), Known::Written(ty)))
 }
 
 // A value as another integer type.

@@ -11,19 +11,27 @@ use Rattle.mr_eval.proofs.SoundParts.{int_fits, place_ok, result_given, shape_gi
 use Rattle.mr_eval.proofs.GivesLaws.{beside_first}
 use Rattle.mr_eval.proofs.evaluating.+evaluated.Goals as goal
 
-pub placed-valued-requires : goal.placed-valued-requires
-placed-valued-requires t c =
+pub placed-pointed_place-requires : goal.placed-pointed_place-requires
+placed-pointed_place-requires t c =
     let is : place_weight c.args.place.now ≡ _ = ap place_weight c.in-Deref.is ∙ weight_deref c.in-Deref.pointer c.in-Deref.ty in
     let same = c.get.ensures in
     let w : value_weight c.get.result.now ≡ value_weight c.in-Deref.pointer = ap value_weight same in
-    (omega (arith, c.decreases), subst (SoundValue (surround_of c.args.here.now)) (sym same) (sound_deref (surround_of c.args.here.now) _ c.in-Deref.pointer c.in-Deref.ty c.in-Deref.is c.requires))
+    (omega (arith, c.decreases), subst (SoundPlace (surround_of c.args.here.now)) (c.in-Deref.is ∙ sym (ap (λ (v : Value). place.Deref v c.in-Deref.ty) same)) c.requires)
 
-pub placed-placed-requires : goal.placed-placed-requires
-placed-placed-requires t c =
+pub pointed_place-valued-requires : goal.pointed_place-valued-requires
+pointed_place-valued-requires t c =
+    (omega (arith, c.decreases), sound_deref (surround_of c.args.here.now) _ c.args.pointer.now c.args.ty.now refl c.requires)
+
+pub placed-field_place-requires : goal.placed-field_place-requires
+placed-field_place-requires t c =
     let is : place_weight c.args.place.now ≡ _ = ap place_weight c.in-Field.is ∙ weight_field c.in-Field.whole c.in-Field.number in
     let same = c.get-in-Field.ensures in
     let w : place_weight c.get-in-Field.result.now ≡ place_weight c.in-Field.whole = ap place_weight same in
-    (omega (arith, c.decreases), subst (SoundPlace (surround_of c.args.here.now)) (sym same) (sound_field (surround_of c.args.here.now) _ c.in-Field.whole c.in-Field.number c.in-Field.is c.requires))
+    (omega (arith, c.decreases), subst (SoundPlace (surround_of c.args.here.now)) (c.in-Field.is ∙ sym (ap (λ (p : Place). place.Field p c.in-Field.number) same)) c.requires)
+
+pub field_place-placed-requires : goal.field_place-placed-requires
+field_place-placed-requires t c =
+    (omega (arith, c.decreases), sound_field (surround_of c.args.here.now) _ c.args.whole.now c.args.number refl c.requires)
 
 pub placed-indexed_place-requires : goal.placed-indexed_place-requires
 placed-indexed_place-requires t c =
@@ -47,44 +55,61 @@ indexed_place-element_by-requires t c =
     let s = surround_of c.args.here.now in
     place_ok s c.args.array.now _ (sound_array s _ c.args.array.now c.args.index.now refl c.requires) c.in_ok-p.ensures.ty
 
-pub placed-placed-requires-in-Variant : goal.placed-placed-requires-in-Variant
-placed-placed-requires-in-Variant t c =
+pub placed-variant_place-requires : goal.placed-variant_place-requires
+placed-variant_place-requires t c =
     let is : place_weight c.args.place.now ≡ _ = ap place_weight c.in-Variant.is ∙ weight_variant_place c.in-Variant.whole c.in-Variant.number in
     let same = c.get-in-Variant.ensures in
     let w : place_weight c.get-in-Variant.result.now ≡ place_weight c.in-Variant.whole = ap place_weight same in
-    (omega (arith, c.decreases), subst (SoundPlace (surround_of c.args.here.now)) (sym same) (sound_variant_place (surround_of c.args.here.now) _ c.in-Variant.whole c.in-Variant.number c.in-Variant.is c.requires))
+    (omega (arith, c.decreases), subst (SoundPlace (surround_of c.args.here.now)) (c.in-Variant.is ∙ sym (ap (λ (p : Place). place.Variant p c.in-Variant.number) same)) c.requires)
 
-pub placed-variant-requires : goal.placed-variant-requires
-placed-variant-requires t c =
-    let ty = subst (λ (p : Place). type_of_place c.args.here.now.locals.now p ≡ Some c.in_ok-p-in-Variant.p.ty.now) c.get-in-Variant.ensures c.in_ok-p-in-Variant.ensures.ty in
-    variant_there (surround_of c.args.here.now) _ c.in-Variant.whole c.in-Variant.number _ c.in-Variant.is c.requires ty
+pub variant_place-placed-requires : goal.variant_place-placed-requires
+variant_place-placed-requires t c =
+    (omega (arith, c.decreases), sound_variant_place (surround_of c.args.here.now) _ c.args.whole.now c.args.number refl c.requires)
 
-pub valued-placed-requires : goal.valued-placed-requires
-valued-placed-requires t c =
+pub variant_place-variant-requires : goal.variant_place-variant-requires
+variant_place-variant-requires t c =
+    variant_there (surround_of c.args.here.now) _ c.args.whole.now c.args.number _ refl c.requires c.in_ok-p.ensures.ty
+
+pub valued-load_expression-requires : goal.valued-load_expression-requires
+valued-load_expression-requires t c =
     let is : value_weight c.args.value.now ≡ _ = ap value_weight c.in-Load.is ∙ weight_load c.in-Load.place in
-    (omega (arith, c.decreases), sound_load (surround_of c.args.here.now) _ c.in-Load.place c.in-Load.is c.requires)
+    (omega (arith, c.decreases), subst (SoundValue (surround_of c.args.here.now)) c.in-Load.is c.requires)
 
-pub valued-loaded_value-requires : goal.valued-loaded_value-requires
-valued-loaded_value-requires t c =
-    place_ok (surround_of c.args.here.now) _ _ (sound_load (surround_of c.args.here.now) _ c.in-Load.place c.in-Load.is c.requires) c.in_ok-p-in-Load.ensures.ty
+pub load_expression-placed-requires : goal.load_expression-placed-requires
+load_expression-placed-requires t c =
+    (omega (arith, c.decreases), sound_load (surround_of c.args.here.now) _ c.args.place.now refl c.requires)
+
+pub load_expression-loaded_value-requires : goal.load_expression-loaded_value-requires
+load_expression-loaded_value-requires t c =
+    let s = surround_of c.args.here.now in
+    place_ok s c.args.place.now _ (sound_load s _ c.args.place.now refl c.requires) c.in_ok-p.ensures.ty
 
 pub valued-bits_of_number-requires : goal.valued-bits_of_number-requires
 valued-bits_of_number-requires t c =
     int_fits (surround_of c.args.here.now) _ c.in-Int.int c.in-Int.number c.in-Int.is c.requires
 
-pub valued-placed-requires-in-Disc : goal.valued-placed-requires-in-Disc
-valued-placed-requires-in-Disc t c =
+pub valued-disc_expression-requires : goal.valued-disc_expression-requires
+valued-disc_expression-requires t c =
     let is : value_weight c.args.value.now ≡ _ = ap value_weight c.in-Disc.is ∙ weight_disc c.in-Disc.place in
-    (omega (arith, c.decreases), sound_disc (surround_of c.args.here.now) _ c.in-Disc.place c.in-Disc.is c.requires)
+    (omega (arith, c.decreases), subst (SoundValue (surround_of c.args.here.now)) c.in-Disc.is c.requires)
 
-pub valued-discriminant-requires : goal.valued-discriminant-requires
-valued-discriminant-requires t c =
-    place_ok (surround_of c.args.here.now) _ _ (sound_disc (surround_of c.args.here.now) _ c.in-Disc.place c.in-Disc.is c.requires) c.in_ok-p-in-Disc.ensures.ty
+pub disc_expression-placed-requires : goal.disc_expression-placed-requires
+disc_expression-placed-requires t c =
+    (omega (arith, c.decreases), sound_disc (surround_of c.args.here.now) _ c.args.place.now refl c.requires)
 
-pub valued-placed-requires-in-AddrOf : goal.valued-placed-requires-in-AddrOf
-valued-placed-requires-in-AddrOf t c =
+pub disc_expression-discriminant-requires : goal.disc_expression-discriminant-requires
+disc_expression-discriminant-requires t c =
+    let s = surround_of c.args.here.now in
+    place_ok s c.args.place.now _ (sound_disc s _ c.args.place.now refl c.requires) c.in_ok-p.ensures.ty
+
+pub valued-address_expression-requires : goal.valued-address_expression-requires
+valued-address_expression-requires t c =
     let is : value_weight c.args.value.now ≡ _ = ap value_weight c.in-AddrOf.is ∙ weight_addr_of c.in-AddrOf.ty c.in-AddrOf.place in
-    (omega (arith, c.decreases), sound_addr_of (surround_of c.args.here.now) _ c.in-AddrOf.ty c.in-AddrOf.place c.in-AddrOf.is c.requires)
+    (omega (arith, c.decreases), subst (SoundValue (surround_of c.args.here.now)) c.in-AddrOf.is c.requires)
+
+pub address_expression-placed-requires : goal.address_expression-placed-requires
+address_expression-placed-requires t c =
+    (omega (arith, c.decreases), sound_addr_of (surround_of c.args.here.now) _ c.args.ty.now c.args.place.now refl c.requires)
 
 pub valued-cast_expression-requires : goal.valued-cast_expression-requires
 valued-cast_expression-requires t c =

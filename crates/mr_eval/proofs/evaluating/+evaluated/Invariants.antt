@@ -5,11 +5,29 @@ use Rattle.mr_eval.proofs.evaluating.+evaluated.Given as goal
 abbrev pub decreases-placed : goal.decreases-placed
 decreases-placed l = 2 * place_weight l.place.now
 
+abbrev pub decreases-pointed_place : goal.decreases-pointed_place
+decreases-pointed_place l = 2 * value_weight l.pointer.now + 1
+
+abbrev pub decreases-field_place : goal.decreases-field_place
+decreases-field_place l = 2 * place_weight l.whole.now + 1
+
 abbrev pub decreases-indexed_place : goal.decreases-indexed_place
 decreases-indexed_place l = 2 * (place_weight l.array.now + value_weight l.index.now) + 1
 
+abbrev pub decreases-variant_place : goal.decreases-variant_place
+decreases-variant_place l = 2 * place_weight l.whole.now + 1
+
 abbrev pub decreases-valued : goal.decreases-valued
 decreases-valued l = 2 * value_weight l.value.now
+
+abbrev pub decreases-load_expression : goal.decreases-load_expression
+decreases-load_expression l = 2 * place_weight l.place.now + 1
+
+abbrev pub decreases-disc_expression : goal.decreases-disc_expression
+decreases-disc_expression l = 2 * place_weight l.place.now + 1
+
+abbrev pub decreases-address_expression : goal.decreases-address_expression
+decreases-address_expression l = 2 * place_weight l.place.now + 1
 
 abbrev pub decreases-cast_expression : goal.decreases-cast_expression
 decreases-cast_expression l = 2 * value_weight l.operand.now + 1
