@@ -10,6 +10,7 @@ pub mod Moves
 pub mod Noted
 pub mod Numbers
 pub mod Operators
+pub mod Plain
 pub mod Reads
 pub mod Scalars
 pub mod Shapes

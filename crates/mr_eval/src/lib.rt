@@ -14,6 +14,7 @@
 //! - [`store_typed`]: the store of a value of a type's shape. A refused one changes no memory. [`store_bytes`] and [`store_uninit`] do
 //!   the same with bytes and with uninitialised ones, [`store_scalar`] with the bytes of an integer, a bool or a pointer.
 //! - [`behind`]: a pointer so many bytes behind another, around the end of the address space.
+//! - [`Plain`]: a type that holds no other, in two bytes; contracts see the type (`specs/Plain.antt`).
 //! - [`arith`], [`overflowing`], [`shift`], [`compare`], [`cast`], [`negate`], [`invert`]: the operators on integers, over their
 //!   bits in two's complement. The bits of a number stand in a `u128`, with zeros above the width of its type. The answer is
 //!   the one that `specs/` defines among the unbounded integers (`Arith`, `Shift`, `Compare`, `Cast`), cut to the width of the
@@ -43,6 +44,7 @@ mod notes;
 mod operands;
 mod operators;
 mod placing;
+mod plain;
 mod reads;
 mod recasting;
 mod scalars;
@@ -62,6 +64,7 @@ pub use loading::load_scalar;
 pub use moving::behind;
 pub use mr_mem::Fault;
 pub use notes::Notes;
+pub use plain::Plain;
 pub use scalars::{Scalar, scalar_of};
 pub use scene::Scene;
 pub use shifts::{ShiftOp, shift};

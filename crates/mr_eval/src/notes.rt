@@ -1,5 +1,5 @@
 //! What is noted of accesses and range checks.
-use mr_ast::Ty;
+use crate::plain::Plain;
 use mr_base::{Access, Accesses, AllocIds, Pointer, Reached, Reaching};
 use mr_value::Val;
 use std::alloc::{AllocError, Global};
@@ -16,7 +16,7 @@ pub struct Notes {
     /// A list for the values of arguments, whatever it holds.
     pub spare_values: Vec<Val>,
     /// A list for their types, whatever it holds.
-    pub spare_types: Vec<Ty>,
+    pub spare_types: Vec<Plain>,
 }
 
 impl Notes {

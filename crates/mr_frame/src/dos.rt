@@ -15,9 +15,9 @@ use crate::look::Look;
 use crate::stack::Stack;
 use crate::types::{type_at, type_with};
 use crate::values::values;
-use mr_ast::{Intrinsic, Place, Term, Ty, Value};
+use mr_ast::{Intrinsic, Place, Term, Value};
 use mr_base::Pointer;
-use mr_eval::{Env, Fault, Notes, Scene, place};
+use mr_eval::{Env, Fault, Notes, Plain, Scene, place};
 use mr_mem::Memory;
 use mr_typing::{Checked, Known};
 use mr_value::Val;
@@ -28,28 +28,32 @@ use std::mem::replace;
 #[derive(Drop)]
 pub struct DoCall {
     pub result: Option<Pointer>,
-    pub result_type: Option<Ty>,
+    pub result_type: Option<Plain>,
     pub args: Vec<Val>,
-    pub arg_types: Vec<Ty>,
+    pub arg_types: Vec<Plain>,
 }
 
 // A type that holds no other.
 #[tactic(auto, using(crate::proofs::PlainLaws::plain_laws))]
-fn plain(t: Known<'_>) -> Ty
+fn plain(t: Known<'_>) -> Plain
     requires { is_plain (ty_of t) ≡ true }
     ensures { result ≡ ty_of t.entry }
 {
     if let Some(int) = t.integer() {
-        return Ty::Int(int);
+        return Plain::int(int);
     }
     if t.is_bool() {
-        return Ty::Bool;
+        return Plain::bool();
     }
-    if t.is_raw() { Ty::Raw } else { Ty::FnPtr }
+    if t.is_raw() {
+        Plain::raw()
+    } else {
+        Plain::fn_ptr()
+    }
 }
 
 // The types of arguments, in place of what a spare list holds.
-fn types<'a>(e: &Env<'a>, args: &'a [Value], spare: Vec<Ty>) -> Result<Vec<Ty>, AllocError>
+fn types<'a>(e: &Env<'a>, args: &'a [Value], spare: Vec<Plain>) -> Result<Vec<Plain>, AllocError>
     requires { All (PlainIn e.now) args.now }
     ensures { IfOk result (λ ts. arg_types (env_surround e.now) args.now ≡ Some ts.items) }
 {
@@ -62,7 +66,7 @@ fn types<'a>(e: &Env<'a>, args: &'a [Value], spare: Vec<Ty>) -> Result<Vec<Ty>, 
 }
 
 // The type of the place for a result, where there is one.
-fn result_type<'a>(e: &Env<'a>, place: Option<&'a Place>) -> Option<Ty>
+fn result_type<'a>(e: &Env<'a>, place: Option<&'a Place>) -> Option<Plain>
     requires { ResultIn e.now (option_copied place) }
     ensures { result_typed (env_surround e.now) (option_copied place.entry) ≡ Some result }
 {
@@ -122,7 +126,7 @@ fn typed<'a>(
     place: Option<&'a Place>,
     at: Option<Pointer>,
     row: Vec<Val>,
-    spare: Vec<Ty>,
+    spare: Vec<Plain>,
 ) -> Result<DoCall, Fault>
     requires args { All (PlainIn e.now) args.now }
     requires place { ResultIn e.now (option_copied place) }
@@ -154,7 +158,7 @@ fn store_result(
         (option_copied value.entry) (world_of s.old)) (world_of s.new) s.new.notes.refused }
 {
     match (call.result, &call.result_type, value) {
-        (Some(p), Some(t), Some(v)) => store(alloc, e, s, p, t, v),
+        (Some(p), Some(t), Some(v)) => store(alloc, e, s, p, &t.ty(), v),
         _ => Ok(()),
     }
 }

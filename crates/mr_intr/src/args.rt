@@ -1,10 +1,14 @@
 //! The arguments of an intrinsic that fit it.
 ghost use Rattle.std.specs.Prelude.{◌≡◌, Some, option_copied, slice_get};
+ghost use Rattle.mr_ast.specs.declared.types.IntType.{IntType as IntTypeOf};
 ghost use Rattle.mr_ast.specs.declared.types.Ty.TheVariants as ty;
+ghost use Rattle.mr_typing.specs.Known.{ty_of};
 ghost use Rattle.mr_intr.specs.Arguments.{HasInteger, HasNumber, HasPointer, HasTruth};
 
-use mr_ast::{IntType, Ty};
+use mr_ast::IntType;
 use mr_base::Pointer;
+use mr_eval::Plain;
+use mr_typing::Known;
 use mr_value::Val;
 
 /// A bool.
@@ -62,13 +66,24 @@ pub fn number_at(args: &[Val], at: usize) -> u32
     }
 }
 
+// Which integer a type is.
+fn number_type(t: Known<'_>) -> IntType
+    requires { (i : IntTypeOf) × (ty_of t ≡ ty.Int i) }
+    ensures { ty_of t.entry ≡ ty.Int result }
+{
+    match t.integer() {
+        Some(int) => int,
+        None => unreachable!(),
+    }
+}
+
 /// The integer type of the place for a result.
-pub fn integer_of(place: Option<&Ty>) -> IntType
+pub fn integer_of(place: Option<&Plain>) -> IntType
     requires { HasInteger (option_copied place) }
     ensures { option_copied place.entry ≡ Some (ty.Int result) }
 {
     match place {
-        Some(Ty::Int(int)) => *int,
-        _ => unreachable!(),
+        Some(t) => number_type(t.known()),
+        None => unreachable!(),
     }
 }

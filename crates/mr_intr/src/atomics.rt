@@ -18,7 +18,7 @@ use crate::args::{bits_at, integer_of, pointer_at};
 use crate::effect::Effect;
 use mr_ast::{IntType, Intrinsic, Ty};
 use mr_base::{Pointer, Reaching, Reason};
-use mr_eval::{ArithOp, Fault, Notes, Scene, arith, store_scalar};
+use mr_eval::{ArithOp, Fault, Notes, Plain, Scene, arith, store_scalar};
 use mr_layout::{align, int_bytes};
 use mr_mem::Memory;
 use mr_runs::View;
@@ -160,7 +160,7 @@ fn replace(s: &mut Scene, op: Intrinsic, p: Pointer, int: IntType, by: u128) -> 
 }
 
 /// The atomic load of an integer of the type of the place for it.
-pub fn atomic_load(args: &[Val], place: Option<&Ty>, s: &mut Scene) -> Result<Effect, Fault>
+pub fn atomic_load(args: &[Val], place: Option<&Plain>, s: &mut Scene) -> Result<Effect, Fault>
     requires { (types : List Ty) × Fits intrinsic.AtomicLoad args.now types (option_copied place) }
     ensures done { (types : List Ty) (picks : List ℕ)
         → ChangesMemory intrinsic.AtomicLoad result args.now types (option_copied place.entry) picks s.old s.new }
@@ -177,21 +177,21 @@ pub fn atomic_load(args: &[Val], place: Option<&Ty>, s: &mut Scene) -> Result<Ef
 }
 
 /// The atomic store of an integer.
-pub fn atomic_store(args: &[Val], types: &[Ty], s: &mut Scene) -> Result<Effect, Fault>
+pub fn atomic_store(args: &[Val], types: &[Plain], s: &mut Scene) -> Result<Effect, Fault>
     requires { (place : Option Ty) × Fits intrinsic.AtomicStore args.now types.now place }
     ensures done { (place : Option Ty) (picks : List ℕ)
         → ChangesMemory intrinsic.AtomicStore result args.now types.now place picks s.old s.new }
     ensures value { IfOk result (λ e. FitsPlace None e.value) }
 {
     let p = pointer_at(args, 0);
-    let t = &types[1];
-    let bytes = encode_scalar(&args[1], t);
-    store_scalar(&mut s.memory, &mut s.notes, true, p, &bytes, align(t))?;
+    let t = types[1].ty();
+    let bytes = encode_scalar(&args[1], &t);
+    store_scalar(&mut s.memory, &mut s.notes, true, p, &bytes, align(&t))?;
     Ok(Effect::quiet(None))
 }
 
 /// The number at a place, which another one replaces where it is the one that was expected.
-pub fn compare_exchange(args: &[Val], place: Option<&Ty>, s: &mut Scene) -> Result<Effect, Fault>
+pub fn compare_exchange(args: &[Val], place: Option<&Plain>, s: &mut Scene) -> Result<Effect, Fault>
     requires { (types : List Ty) × Fits intrinsic.CompareExchange args.now types (option_copied place) }
     ensures done { (types : List Ty) (picks : List ℕ)
         → ChangesMemory intrinsic.CompareExchange result args.now types (option_copied place.entry) picks s.old s.new }
@@ -208,7 +208,7 @@ pub fn compare_exchange(args: &[Val], place: Option<&Ty>, s: &mut Scene) -> Resu
 pub fn fetch(
     op: Intrinsic,
     args: &[Val],
-    place: Option<&Ty>,
+    place: Option<&Plain>,
     s: &mut Scene,
 ) -> Result<Effect, Fault>
     requires op { IsFetch op }

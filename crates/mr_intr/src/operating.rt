@@ -8,8 +8,8 @@ use crate::effect::Effect;
 use crate::heap::{allocate, deallocate};
 use crate::locks::{acquire, create_lock, join, release};
 use crate::texts::{assume, print};
-use mr_ast::{Intrinsic, Ty};
-use mr_eval::{Fault, Scene};
+use mr_ast::Intrinsic;
+use mr_eval::{Fault, Plain, Scene};
 use mr_sync::SyncTable;
 use mr_value::Val;
 
@@ -19,8 +19,8 @@ use mr_value::Val;
 pub fn operate(
     op: Intrinsic,
     args: &[Val],
-    arg_types: &[Ty],
-    result_type: Option<&Ty>,
+    arg_types: &[Plain],
+    result_type: Option<&Plain>,
     s: &mut Scene,
     sync: &mut SyncTable,
     output: &mut Vec<u8>,

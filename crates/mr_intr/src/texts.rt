@@ -15,10 +15,9 @@ ghost use Rattle.mr_intr.specs.Texts.{bool_text, number_text, spaced_behind};
 use crate::args::truth_at;
 use crate::effect::Effect;
 use itoa::Buffer;
-use mr_ast::{Num, Ty};
+use mr_ast::Num;
 use mr_base::Reason;
-use mr_eval::{Fault, Scalar, scalar_of};
-use mr_typing::Known;
+use mr_eval::{Fault, Plain, Scalar, scalar_of};
 use mr_value::Val;
 use std::alloc::AllocError;
 
@@ -57,19 +56,19 @@ fn push_bool(text: &mut Vec<u8>, truth: bool) -> Result<(), AllocError>
 
 // Appends the text of a value of this type.
 #[tactic(auto, using(crate::proofs::TextLaws::text_laws))]
-fn push_value(text: &mut Vec<u8>, t: &Ty, v: &Val) -> Result<(), AllocError>
+fn push_value(text: &mut Vec<u8>, t: &Plain, v: &Val) -> Result<(), AllocError>
     requires scalar { is_scalar_number t.now ≡ true }
     requires shape { has_shape t.now v.now ≡ true }
     ensures { OnOk result (text.new.items ≡ text.old.items ++ text_in t.now v.now) }
 {
-    match scalar_of(Known::Written(t), v) {
+    match scalar_of(t.known(), v) {
         Scalar::Number(number) => push_number(text, number),
         Scalar::Truth(truth) => push_bool(text, truth),
     }
 }
 
 // Appends the texts of values, each led by a space.
-fn push_others(text: &mut Vec<u8>, types: &[Ty], args: &[Val]) -> Result<(), AllocError>
+fn push_others(text: &mut Vec<u8>, types: &[Plain], args: &[Val]) -> Result<(), AllocError>
     requires scalars { list_all is_scalar_number types.now ≡ true }
     requires shapes { HaveShapes types.now args.now }
     ensures { OnOk result (text.new.items ≡ text.old.items ++ spaced_behind (texts_in types.now args.now)) }
@@ -82,7 +81,7 @@ fn push_others(text: &mut Vec<u8>, types: &[Ty], args: &[Val]) -> Result<(), All
 }
 
 /// Appends the texts of the arguments to the output, with a space between.
-pub fn print(args: &[Val], types: &[Ty], output: &mut Vec<u8>) -> Result<Effect, Fault>
+pub fn print(args: &[Val], types: &[Plain], output: &mut Vec<u8>) -> Result<Effect, Fault>
     requires { (place : Option Ty) × Fits intrinsic.Print args.now types.now place }
     ensures done { (place : Option Ty) (picks : List ℕ) (s : Scene) (x : Tables) → Does intrinsic.Print result
         (operated intrinsic.Print args.now types.now place picks (begun s x)) s x output.old.items output.new.items }

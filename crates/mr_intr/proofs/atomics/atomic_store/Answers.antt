@@ -27,17 +27,17 @@ bounds-types-1 c =
 pub encode_scalar-bytes-requires-clause-ok : goal.encode_scalar-bytes-requires-clause-ok
 encode_scalar-bytes-requires-clause-ok c =
     let takes = atomic_store_takes c.args.args.now c.args.types.now c.requires.0 c.requires.1 in
-    subst TypeOk (sym (c.index-types-1.is ∙ ap (λ (l : List Ty). get_or l 1 c.index-types-1.result) takes.typed)) (int_ok takes.int)
+    subst TypeOk (sym (c.ty-t.ensures ∙ c.index-types-1.is ∙ ap (λ (l : List Ty). get_or l 1 c.index-types-1.result) takes.typed)) (int_ok takes.int)
 
 pub encode_scalar-bytes-requires-clause-scalar : goal.encode_scalar-bytes-requires-clause-scalar
 encode_scalar-bytes-requires-clause-scalar c =
     let takes = atomic_store_takes c.args.args.now c.args.types.now c.requires.0 c.requires.1 in
-    subst (λ (t : Ty). IsTrue (is_scalar t)) (sym (c.index-types-1.is ∙ ap (λ (l : List Ty). get_or l 1 c.index-types-1.result) takes.typed)) (ap is_scalar_layer (ty.outs-Int takes.int))
+    subst (λ (t : Ty). IsTrue (is_scalar t)) (sym (c.ty-t.ensures ∙ c.index-types-1.is ∙ ap (λ (l : List Ty). get_or l 1 c.index-types-1.result) takes.typed)) (ap is_scalar_layer (ty.outs-Int takes.int))
 
 pub encode_scalar-bytes-requires-clause-shape : goal.encode_scalar-bytes-requires-clause-shape
 encode_scalar-bytes-requires-clause-shape c =
     let takes = atomic_store_takes c.args.args.now c.args.types.now c.requires.0 c.requires.1 in
-    let t = c.index-types-1.is ∙ ap (λ (l : List Ty). get_or l 1 c.index-types-1.result) takes.typed in
+    let t = c.ty-t.ensures ∙ c.index-types-1.is ∙ ap (λ (l : List Ty). get_or l 1 c.index-types-1.result) takes.typed in
     let v = c.index-args-1.is ∙ ap (λ (l : List Val). get_or l 1 c.index-args-1.result) takes.is in
     (λ i. has_shape (t i) (v i)) ∙ takes.shape
 
@@ -49,7 +49,7 @@ returns-clause-done c =
     let types = c.args.types.now in
     let new = record s { memory = c.store_scalar.new.m; notes = c.store_scalar.new.notes } in
     let takes = atomic_store_takes c.args.args.now types c.requires.0 c.requires.1 in
-    let t : c.index-types-1.result ≡ ty.Int takes.int = c.index-types-1.is ∙ ap (λ (l : List Ty). get_or l 1 c.index-types-1.result) takes.typed in
+    let t : c.ty-t.result ≡ ty.Int takes.int = c.ty-t.ensures ∙ c.index-types-1.is ∙ ap (λ (l : List Ty). get_or l 1 c.index-types-1.result) takes.typed in
     let v : c.index-args-1.result ≡ val.Int takes.bits = c.index-args-1.is ∙ ap (λ (l : List Val). get_or l 1 c.index-args-1.result) takes.is in
     let written = encoding_of (ty.Int takes.int) (val.Int takes.bits) in
     let b = c.encode_scalar-bytes.result in
@@ -71,7 +71,7 @@ returns-in_err-store_scalar-clause-done c =
     let f = c.in_err-store_scalar.field-0.0 in
     let new = record s { memory = c.store_scalar.new.m; notes = c.store_scalar.new.notes } in
     let takes = atomic_store_takes c.args.args.now types c.requires.0 c.requires.1 in
-    let t : c.index-types-1.result ≡ ty.Int takes.int = c.index-types-1.is ∙ ap (λ (l : List Ty). get_or l 1 c.index-types-1.result) takes.typed in
+    let t : c.ty-t.result ≡ ty.Int takes.int = c.ty-t.ensures ∙ c.index-types-1.is ∙ ap (λ (l : List Ty). get_or l 1 c.index-types-1.result) takes.typed in
     let v : c.index-args-1.result ≡ val.Int takes.bits = c.index-args-1.is ∙ ap (λ (l : List Val). get_or l 1 c.index-args-1.result) takes.is in
     let written = encoding_of (ty.Int takes.int) (val.Int takes.bits) in
     let b = c.encode_scalar-bytes.result in
