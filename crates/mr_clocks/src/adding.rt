@@ -3,7 +3,7 @@
 //! Most steps do what an earlier one did, and keep the clock of the step before in their thread. What the others need
 //! stands in calls of their own, which are marked `inline(never)`, so that it costs those steps nothing.
 
-ghost use Rattle.std.specs.Prelude.{◌≡◌, ◌≢◌, ℕ, ◌+◌, ◌<◌, ◌≤◌, ◌^◌, IfOk, IfSome, IsTrue, OnOk, OnErr, MatchOption, length, slice_index, max, vec_len, vec_capacity};
+ghost use Rattle.std.specs.Prelude.{◌≡◌, ◌≢◌, ℕ, ◌+◌, ◌<◌, ◌≤◌, ◌^◌, IfOk, IfSome, IsTrue, OnOk, OnErr, OnSome, MatchOption, length, slice_index, max, vec_len, vec_capacity};
 ghost use Rattle.mr_event.specs.Order.{step_at, thread_at, Edge, IsGreatestPartner, HasNoPartner};
 ghost use Rattle.mr_clocks.specs.Clocks.{AreClocks, AreLatest, IsMade, IsNumbered, KeepsClock};
 ghost use Rattle.mr_clocks.specs.Marks.{AreMarked};
@@ -46,11 +46,11 @@ fn memo_of(
     look_up(alloc, memos, index, rows, step)
 }
 
-// Takes the memory that keeping step `j` needs, with some more skips and with a link for each row in which it is noted.
+// Takes the memory that keeping step `j` needs but that of a new clock, with some more skips and with a link for each
+// row in which it is noted.
 #[inline(always)]
 fn prepare(
     run: &[Footprint],
-    clocks: &mut Vec<Clock>,
     numbers: &mut Vec<u32>,
     latest: &mut Clock,
     wakers: &mut Wakers,
@@ -62,7 +62,6 @@ fn prepare(
 ) -> Result<(), OutOfMemory>
     requires within { j < length run.now }
     requires few { length run.now < 2 ^ 32 }
-    ensures clocks { clocks.new.items ≡ clocks.old.items }
     ensures numbers { numbers.new.items ≡ numbers.old.items }
     ensures links { links.new.items ≡ links.old.items }
     ensures skips { skips.new.items ≡ skips.old.items }
@@ -73,7 +72,6 @@ fn prepare(
         (slice_index latest.new (thread_at run.now j) ≡ max (slice_index latest.old (thread_at run.now j)) (j + 1)) }
     ensures others { OnOk result
         ((t : ℕ) → t ≢ thread_at run.now j → slice_index latest.new t ≡ slice_index latest.old t) }
-    ensures one_clock { OnOk result (vec_len clocks.new < vec_capacity clocks.new) }
     ensures one_number { OnOk result (vec_len numbers.new < vec_capacity numbers.new) }
     ensures table { OnOk result (0 < more → vec_len skips.new < 8192 → 8192 ≤ vec_capacity skips.new) }
     ensures room { OnOk result (vec_len links.new + noted ≤ vec_capacity links.new) }
@@ -82,7 +80,6 @@ fn prepare(
 {
     reserve_links(links, noted)?;
     reserve_table(skips, more)?;
-    clocks.reserve(1)?;
     numbers.reserve(1)?;
     prepare_wakes(run, wakers, j)?;
     latest.raise(thread_at(run, j), j as u32 + 1)?;
@@ -91,7 +88,7 @@ fn prepare(
 
 // The number of the clock of a step: of a new one, or of that of the step before in its thread, which is before `next`.
 fn numbered(clocks: &mut Vec<Clock>, numbers: &[u32], next: u32, made: Option<Clock>) -> u32
-    requires room { vec_len clocks.old < vec_capacity clocks.old }
+    requires room { OnSome made (vec_len clocks.old < vec_capacity clocks.old) }
     requires few { length clocks.old.items < 2 ^ 32 }
     requires step { next ≤ length numbers.now }
     requires within { (p : ℕ) → next ≡ p + 1 → slice_index numbers.now p < length clocks.old.items }
@@ -138,7 +135,7 @@ fn enter(
     requires next { next ≤ j }
     requires made { IsMade run.now clocks.old.items numbers.old.items next made j }
     requires left { AreSkips run.now j links.old.items left.items }
-    requires one_clock { vec_len clocks.old < vec_capacity clocks.old }
+    requires one_clock { OnSome made (vec_len clocks.old < vec_capacity clocks.old) }
     requires one_number { vec_len numbers.old < vec_capacity numbers.old }
     requires room { vec_len links.old + length places.now ≤ vec_capacity links.old }
     requires small { vec_len links.old + length places.now < 2 ^ 32 }
@@ -238,9 +235,8 @@ fn add_walked(
     );
     let (more, noted) = (here.skips.len(), places.len());
     fill_hints(hints)?;
-    prepare(
-        run, clocks, numbers, latest, wakers, links, skips, more, noted, j,
-    )?;
+    clocks.reserve(1)?;
+    prepare(run, numbers, latest, wakers, links, skips, more, noted, j)?;
     enter(
         alloc, run, clocks, numbers, wakers, hints, rows, links, skips, next, places, slots, j,
         here.clock, here.skips,
@@ -292,7 +288,6 @@ fn add_settled(
     let next = latest.at(thread_at(run, j));
     prepare(
         run,
-        clocks,
         numbers,
         latest,
         wakers,

@@ -7,8 +7,8 @@ use Rattle.mr_clocks.proofs.adding.add_settled.Goals as goal
 
 pub enter-requires-clause-clocks : goal.enter-requires-clause-clocks
 enter-requires-clause-clocks c =
-    clocks_same c.args.run.now c.args.j c.args.clocks.now.items c.prepare.new.clocks.items c.args.numbers.now.items c.prepare.new.numbers.items
-    c.in_ok-prepare.ensures.clocks c.in_ok-prepare.ensures.numbers c.requires.clocks
+    clocks_same c.args.run.now c.args.j c.args.clocks.now.items c.args.clocks.now.items c.args.numbers.now.items c.prepare.new.numbers.items
+    refl c.in_ok-prepare.ensures.numbers c.requires.clocks
 
 pub enter-requires-clause-wakers : goal.enter-requires-clause-wakers
 enter-requires-clause-wakers c =
@@ -37,8 +37,8 @@ enter-requires-clause-next c =
 pub enter-requires-clause-made : goal.enter-requires-clause-made
 enter-requires-clause-made c =
     let is_next = c.at-next.ensures ∙ ap (slice_index c.args.latest.now) c.thread_at.ensures in
-    made_same c.args.run.now c.args.clocks.now.items c.prepare.new.clocks.items c.args.numbers.now.items c.prepare.new.numbers.items _ c.at-next.result c.args.j None
-    (sym c.in_ok-prepare.ensures.clocks) (sym c.in_ok-prepare.ensures.numbers) (sym is_next) c.requires.keeps
+    made_same c.args.run.now c.args.clocks.now.items c.args.clocks.now.items c.args.numbers.now.items c.prepare.new.numbers.items _ c.at-next.result c.args.j None
+    refl (sym c.in_ok-prepare.ensures.numbers) (sym is_next) c.requires.keeps
 
 pub returns-clause-latest : goal.returns-clause-latest
 returns-clause-latest c =

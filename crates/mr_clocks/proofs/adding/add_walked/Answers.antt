@@ -1,9 +1,15 @@
-use Rattle.mr_clocks.proofs.Common.{List, slice_index, refl, sym, ◌∙◌, ap, subst, arith, step_at, thread_at, Row, AreAllAsked}
+use Rattle.mr_clocks.proofs.Common.{List, None, Option, Some, ◌<◌, vec_capacity, vec_len, slice_index, refl, sym, ◌∙◌, ap, subst, arith, step_at, thread_at, Row, AreAllAsked}
+use Rattle.std.specs.Prelude.{OnSome}
 use Rattle.mr_clocks.proofs.Kept.{clocks_same, latest_low, latest_more, made_same, rows_same}
 use Rattle.mr_clocks.proofs.Noting.{keys_same}
 use Rattle.mr_clocks.proofs.SkipLaws.{skips_same}
 use Rattle.mr_clocks.proofs.WakerLaws.{wakers_extended}
 use Rattle.mr_clocks.proofs.adding.add_walked.Goals as goal
+
+-- what holds anyway holds where there is a value
+if_some : {X : Type 0} (o : Option X) (P : Type 0) → P → OnSome o P
+if_some None P p = tt
+if_some (Some x) P p = p
 
 pub clock_of-requires-clause-clocks : goal.clock_of-requires-clause-clocks
 clock_of-requires-clause-clocks c =
@@ -52,8 +58,8 @@ partner_by-partner-requires-clause-made c =
 
 pub enter-requires-clause-clocks : goal.enter-requires-clause-clocks
 enter-requires-clause-clocks c =
-    clocks_same c.args.run.now c.args.j c.args.clocks.now.items c.prepare.new.clocks.items c.args.numbers.now.items c.prepare.new.numbers.items
-    c.in_ok-prepare.ensures.clocks c.in_ok-prepare.ensures.numbers c.requires.clocks
+    clocks_same c.args.run.now c.args.j c.args.clocks.now.items c.reserve.new.self.items c.args.numbers.now.items c.prepare.new.numbers.items
+    c.in_ok-reserve.ensures.items c.in_ok-prepare.ensures.numbers c.requires.clocks
 
 pub enter-requires-clause-wakers : goal.enter-requires-clause-wakers
 enter-requires-clause-wakers c =
@@ -85,8 +91,12 @@ pub enter-requires-clause-made : goal.enter-requires-clause-made
 enter-requires-clause-made c =
     let made = c.in_ok-here.here.clock in
     let is_next = c.at-next.ensures ∙ ap (slice_index c.args.latest.now) c.thread_at.ensures in
-    made_same c.args.run.now c.as_slice.result.now c.prepare.new.clocks.items c.as_slice-2.result.now c.prepare.new.numbers.items _ c.at-next.result c.args.j made
-    (c.as_slice.ensures.value ∙ sym c.in_ok-prepare.ensures.clocks) (c.as_slice-2.ensures.value ∙ sym c.in_ok-prepare.ensures.numbers) (sym is_next) c.in_ok-here.ensures.made
+    made_same c.args.run.now c.as_slice.result.now c.reserve.new.self.items c.as_slice-2.result.now c.prepare.new.numbers.items _ c.at-next.result c.args.j made
+    (c.as_slice.ensures.value ∙ sym c.in_ok-reserve.ensures.items) (c.as_slice-2.ensures.value ∙ sym c.in_ok-prepare.ensures.numbers) (sym is_next) c.in_ok-here.ensures.made
+
+pub enter-requires-clause-one_clock : goal.enter-requires-clause-one_clock
+enter-requires-clause-one_clock c =
+    if_some c.in_ok-here.here.clock (vec_len c.reserve.new.self < vec_capacity c.reserve.new.self) (omega (arith, c.in_ok-reserve.ensures.ok))
 
 pub returns-clause-latest : goal.returns-clause-latest
 returns-clause-latest c =
@@ -98,6 +108,9 @@ returns-in_err-here-clause-keys c = keys_same c.args.rows.now.items
 
 pub returns-in_err-prepare-clause-keys : goal.returns-in_err-prepare-clause-keys
 returns-in_err-prepare-clause-keys c = keys_same c.args.rows.now.items
+
+pub returns-in_err-reserve-clause-keys : goal.returns-in_err-reserve-clause-keys
+returns-in_err-reserve-clause-keys c = keys_same c.args.rows.now.items
 
 pub returns-in_err-fill_hints-clause-keys : goal.returns-in_err-fill_hints-clause-keys
 returns-in_err-fill_hints-clause-keys c = keys_same c.args.rows.now.items
