@@ -1,2 +1,3 @@
+pub mod DepthLaws
 pub mod ListLaws
 pub mod WholeLaws

@@ -1,6 +1,7 @@
 -- The JSON of a run.
-use Rattle.std.specs.Prelude.{ℕ, ◌+◌, List, map, codes, Option, None, Some, slice_get}
+use Rattle.std.specs.Prelude.{◌≡◌, ℕ, ◌+◌, List, map, codes, Option, None, Some, slice_get}
 use Rattle.serde_json.specs.Data.{Data, null, number, string, unsigned, array, object, member, no_members}
+use Rattle.serde_json.specs.Read.{read}
 use Rattle.serde_json.specs.View.{items_of}
 use Rattle.serde_json.specs.Written.{compact_text}
 use Rattle.mr_base.specs.Reasons.{code_of}
@@ -51,3 +52,7 @@ run_data s values = object
 -- THE JSON OF A RUN: the text of that value without spaces, and a line feed
 abbrev pub json_text : Seen → List StepValues → List ℕ
 json_text s values = line (compact_text (run_data s values))
+
+-- the text is a line that READS AS the value: as `serde_json` reads a text, whatever tool wrote it
+abbrev pub ReadsAs : List ℕ → Data → Type 0
+ReadsAs text d = (front : List ℕ) × (text ≡ line front) × (read front ≡ Some d)

@@ -4,7 +4,8 @@
 //!   loaded or stored, the races with the places of their two steps, and the verdict.
 //!
 //! `specs/Run.antt` says which value that is, and `specs/Parts.antt`, `specs/Accesses.antt` and `specs/Steps.antt` which
-//! values its parts are. Proved: the text is that value as `serde_json` writes it, and want of memory is the only error.
+//! values its parts are. Proved: the text is that value as `serde_json` writes it and reads as that value again, and want of
+//! memory is the only error.
 #![tactic(auto)]
 
 mod accesses;

@@ -1,7 +1,7 @@
 //! The JSON of a run.
 ghost use Rattle.std.specs.Prelude.{◌≡◌, ◌++◌, IfOk, codes, decimal, map, slice_get, string_bytes};
 ghost use Rattle.mr_listing.specs.Seen.{seen};
-ghost use Rattle.mr_json.specs.Run.{before_of, code_data, json_text, race_data, run_data, side_data};
+ghost use Rattle.mr_json.specs.Run.{ReadsAs, before_of, code_data, json_text, race_data, run_data, side_data};
 ghost use Rattle.mr_json.specs.Steps.{step_data};
 ghost use Rattle.mr_report.specs.Report.{verdict_text};
 ghost use Rattle.serde_json.specs.Data.{array as array_data};
@@ -127,9 +127,10 @@ fn run(alloc: Global, shown: &Shown<'_>, values: &[StepValues]) -> Result<Value,
 }
 
 /// A run as one JSON object and a line feed, where all its steps are told, with what they loaded and stored, which
-/// stands at the number of each. An `Err` is for want of memory.
+/// stands at the number of each. It reads back as the value that was written. An `Err` is for want of memory.
 pub fn json(alloc: Global, shown: &Shown<'_>, values: &[StepValues]) -> Result<Vec<u8>, OutOfMemory>
-    ensures { IfOk result (λ text. text.items ≡ json_text (seen shown.now) values.now) }
+    ensures text { IfOk result (λ text. text.items ≡ json_text (seen shown.now) values.now) }
+    ensures reads_back { IfOk result (λ text. ReadsAs text.items (run_data (seen shown.now) values.now)) }
 {
     let mut text = run(alloc, shown, values)?.to_vec(alloc)?;
     text.push(b'\n')?;
