@@ -85,7 +85,9 @@ class Told:
         _, *lines = [it.strip().decode() for it in self.step(k)]
         near = [pair for pair in self.races if pair[1] in span]
         partners = [one for one, other in near if other == k] + [other for one, other in near if one == k]
-        did = [f"races with step {it + 1}" for it in partners] + [it for it in lines if not it.startswith("races with step ")]
+        lead = "races with step " if len(partners) == 1 else "races with steps "
+        phrase = [lead + ", ".join(str(it + 1) for it in partners)] if partners else []
+        did = phrase + [it for it in lines if not it.startswith("races with step ")]
         site = "  ".join(self.name(it).decode() for it in self.sites[k])
         return "\n".join([f"step {k + 1}, thread {self.steps[k][0]}  {site}", *did])
 
