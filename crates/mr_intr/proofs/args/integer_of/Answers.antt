@@ -7,5 +7,5 @@ use Rattle.mr_intr.proofs.args.integer_of.Goals as goal
 pub number_type-requires : goal.number_type-requires
 number_type-requires c = (c.requires.int, c.known.ensures ∙ same_Some c.in-Some.t.now (ty.Int c.requires.int) c.requires.is)
 
-pub returns-in-Some : goal.returns-in-Some
-returns-in-Some c = ap (λ (t : Ty). Some t) (sym c.known.ensures ∙ c.number_type.ensures)
+pub returns : goal.returns
+returns c = ap (λ (t : Ty). Some t) (sym c.known.ensures ∙ c.number_type.ensures)

@@ -5,8 +5,8 @@ use Rattle.mr_typing.specs.Types.{integer_in, integer_of}
 use Rattle.mr_typing.proofs.KindLaws.{integer_is}
 use Rattle.mr_intr.proofs.args.number_type.Goals as goal
 
-pub returns-in-Some : goal.returns-in-Some
-returns-in-Some c = integer_is (ty_of c.args.t) c.in-Some.int (sym c.in-Some.ensures)
+pub returns : goal.returns
+returns c = integer_is (ty_of c.args.t) c.in-Some.int (sym c.in-Some.ensures)
 
 pub unreachable-requires : goal.unreachable-requires
 unreachable-requires c =
