@@ -1,8 +1,15 @@
 -- What an undefined run speaks of, as it is written.
-use Rattle.std.specs.Prelude.{ℕ, suc, ◌+◌, ◌-◌, nat_lt, if◌then◌else◌, List, [], ◌∷◌, ◌++◌, Option, None, Some, codes}
-use Rattle.std.specs.Prelude.{decimal}
+use Rattle.std.specs.Prelude.{ℕ, suc, ◌+◌, ◌-◌, nat_lt, Bool, true, false, ◌&&◌, if◌then◌else◌}
+use Rattle.std.specs.Prelude.{List, [], ◌∷◌, ◌++◌, Option, None, Some, codes, decimal}
+use Rattle.std.specs.List.{list_any}
 use Rattle.std.specs.Option.{option_and_then}
+use Rattle.mr_base.specs.Pairs.{is_meeting}
+use Rattle.mr_base.specs.declared.access.Access.{Access}
 use Rattle.mr_base.specs.declared.byte.AllocId.{AllocId}
+use Rattle.mr_base.specs.declared.reason.Reason.{Reason}
+use Rattle.mr_base.specs.declared.reason.Reason.TheVariants.{InvalidValue}
+use Rattle.mr_base.specs.declared.reason.Verdict.{Verdict}
+use Rattle.mr_base.specs.declared.reason.Verdict.TheVariants.{Undefined}
 use Rattle.mr_event.specs.Footprint.{Footprint}
 use Rattle.mr_labels.specs.Table.{named}
 use Rattle.mr_labels.specs.declared.names.Name.{Name}
@@ -70,7 +77,50 @@ spoken_text s r (Some row) =
 abbrev pub owner_of : Seen → Reached → Option Allocation
 owner_of s r = option_and_then (λ id. named id s.rows) r.pointer.prov
 
+-- ---- who stored the bytes that mean no value
+
+-- whether an access stored to one of the bytes
+abbrev pub stores_to : Reached → Access → Bool
+stores_to r a = a.store && is_meeting a.addr a.len r.pointer.addr r.len
+
+-- whether a step did
+abbrev pub stored_by : Reached → Footprint → Bool
+stored_by r foot = list_any (stores_to r) foot.accesses
+
+-- the later of two steps, where there are any
+abbrev pub later : Option ℕ → Option ℕ → Option ℕ
+later None earlier = earlier
+later (Some k) earlier = Some k
+
+-- the number of a step, where it stored to one of the bytes
+abbrev pub storing : ℕ → Reached → Footprint → Option ℕ
+storing k r foot = if stored_by r foot then Some k else None
+
+-- the number of the last step that stored to one of the bytes, counted on from a number
+abbrev pub stored_last : ℕ → Reached → List Footprint → Option ℕ
+stored_last k r [] = None
+stored_last k r (foot ∷ feet) = later (stored_last (suc k) r feet) (storing k r foot)
+
+-- `; step 20 stored there last`
+abbrev pub storer_text : Option ℕ → List ℕ
+storer_text None = codes "; no step stored there"
+storer_text (Some k) = codes "; step " ++ decimal (k + 1) ++ codes " stored there last"
+
+abbrev pub is_value_fault : Reason → Bool
+is_value_fault InvalidValue = true
+is_value_fault _ = false
+
+-- whether a run ended with bytes that mean no value
+abbrev pub lacks_value : Verdict → Bool
+lacks_value (Undefined reason) = is_value_fault reason
+lacks_value _ = false
+
+-- which step last made bytes so that mean no value
+abbrev pub made_so : Seen → Reached → List ℕ
+made_so s r =
+    if lacks_value s.verdict && nat_lt 0 r.len then storer_text (stored_last 0 r s.feet) else []
+
 -- THE LINE OF WHAT AN UNDEFINED RUN SPEAKS OF, where it does
 abbrev pub spoken_line : Seen → Option Reached → List ℕ
 spoken_line s None = []
-spoken_line s (Some r) = codes "it speaks of " ++ spoken_text s r (owner_of s r) ++ codes "\n"
+spoken_line s (Some r) = codes "it speaks of " ++ spoken_text s r (owner_of s r) ++ made_so s r ++ codes "\n"

@@ -1,15 +1,16 @@
 //! What an undefined run speaks of: an allocation, by its name.
-ghost use Rattle.std.specs.Prelude.{◌≡◌, ◌++◌, OnOk};
+ghost use Rattle.std.specs.Prelude.{◌≡◌, ◌++◌, ◌&&◌, OnOk, nat_lt};
 ghost use Rattle.mr_listing.specs.Accesses.{bytes_text};
 ghost use Rattle.mr_listing.specs.Seen.{seen};
 ghost use Rattle.mr_listing.specs.Spoken.{doing_word, freed_from, freed_text, freeing_text, held_bytes};
-ghost use Rattle.mr_listing.specs.Spoken.{offset_text, owner_of, owner_word, spoken_line, spoken_text, where_text};
+ghost use Rattle.mr_listing.specs.Spoken.{lacks_value, made_so, offset_text, owner_of, owner_word, spoken_line, spoken_text};
+ghost use Rattle.mr_listing.specs.Spoken.{stored_by, stored_last, storer_text, stores_to, where_text};
 
 use crate::OutOfMemory;
 use crate::accesses::push_bytes;
 use crate::leaks::freed_by;
 use crate::shown::Shown;
-use mr_base::AllocId;
+use mr_base::{Access, AllocId, Reason, Verdict, ranges_meet};
 use mr_event::Footprint;
 use mr_labels::{Allocation, Name, Reached, Reaching, push_count, push_name, push_number};
 
@@ -147,6 +148,67 @@ fn push_spoken_text(
     }
 }
 
+// Whether an access stored to one of these bytes.
+fn stores_to(reached: Reached, access: Access) -> bool
+    ensures { result ≡ stores_to reached access }
+{
+    access.store && ranges_meet(access.addr, access.len, reached.pointer.addr, reached.len)
+}
+
+// Whether a step did.
+fn stored_by(reached: Reached, foot: &Footprint) -> bool
+    ensures { result ≡ stored_by reached foot.now }
+{
+    foot.accesses()
+        .iter()
+        .any(|access| stores_to(reached, *access))
+}
+
+// The number of the last step that did, counted from 0.
+fn stored_last(reached: Reached, feet: &[Footprint]) -> Option<usize>
+    ensures { result ≡ stored_last 0 reached feet.now }
+{
+    let mut last = None;
+    for (k, foot) in feet.iter().enumerate() {
+        if stored_by(reached, foot) {
+            last = Some(k);
+        }
+    }
+    last
+}
+
+// Appends which step it was, or that there is none.
+fn push_storer(out: &mut Vec<u8>, last: Option<usize>) -> Result<(), OutOfMemory>
+    ensures { OnOk result (out.new.items ≡ out.old.items ++ storer_text last) }
+{
+    match last {
+        None => out.extend_from_slice(b"; no step stored there"),
+        Some(k) => {
+            out.extend_from_slice(b"; step ")?;
+            push_count(out, k)?;
+            out.extend_from_slice(b" stored there last")
+        }
+    }
+}
+
+// Whether a run ended with bytes that mean no value.
+fn lacks_value(verdict: Verdict) -> bool
+    ensures { result ≡ lacks_value verdict }
+{
+    matches!(verdict, Verdict::Undefined(Reason::InvalidValue))
+}
+
+// Appends which step last made bytes so that mean no value.
+fn push_made_so(out: &mut Vec<u8>, shown: &Shown<'_>, reached: Reached) -> Result<(), OutOfMemory>
+    ensures { OnOk result (out.new.items ≡ out.old.items ++ made_so (seen shown.now) reached) }
+{
+    if lacks_value(shown.verdict) && 0 < reached.len {
+        push_storer(out, stored_last(reached, shown.feet))
+    } else {
+        Ok(())
+    }
+}
+
 /// Appends the line of what an undefined run speaks of, where it does.
 pub fn push_spoken(
     out: &mut Vec<u8>,
@@ -160,6 +222,7 @@ pub fn push_spoken(
         Some(reached) => {
             out.extend_from_slice(b"it speaks of ")?;
             push_spoken_text(out, shown, reached, owner_of(shown, reached))?;
+            push_made_so(out, shown, reached)?;
             out.push(b'\n')?;
             Ok(())
         }
