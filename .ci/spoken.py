@@ -2,8 +2,8 @@
 runs it.
 
 The line is there exactly where the reason speaks of an allocation. Where the bytes lie in it, whether it was freed, and what was
-wanted of them have to be what the reason says; a block is that of a step which allocates, and has as many bytes as stand there; and
-what was freed was freed by a step that gives up storage.
+wanted of them have to be what the reason says; a block is that of a step which allocates, and has as many bytes as stand there;
+what was freed was freed by a step that gives up storage; and where bytes mean no value, a step that stored there did store.
 """
 import re
 
@@ -13,7 +13,7 @@ OF_MEMORY = {*range(103, 109), *range(127, 131)}
 LINE = re.compile(
     rb"it speaks of (?:no allocation|(?P<name>.+), which has (?P<size>\d+) bytes?(?: and was freed by step (?P<freed>\d+))?): "
     rb"(?P<doing>load of|store of|atomic change of|move over|reference to|freeing of) (?P<length>\d+) bytes? "
-    rb"at (?:byte (?P<at>-?\d+), )?address (?P<address>\d+)")
+    rb"at (?:byte (?P<at>-?\d+), )?address (?P<address>\d+)(?:; (?:step (?P<stored>\d+) stored there last|(?P<never>no step stored there)))?")
 # No program here has a type of a greater alignment.
 MOST_ALIGNED = 4096
 ACCESSES = (b"load of", b"store of", b"atomic change of")
@@ -29,6 +29,7 @@ class Told:
         self.name, self.doing = it["name"], it["doing"]
         self.size, self.freed, self.length, self.at = (it[key] and int(it[key]) for key in ("size", "freed", "length", "at"))
         self.address = int(it["address"])
+        self.stored, self.never = it["stored"] and int(it["stored"]), it["never"]
         self.is_whole = (it["at"] is None) == (self.name is None)
 
     def is_inside(self):
@@ -57,6 +58,14 @@ def fits(code, told):
         129: told.frees() and told.is_block() and told.length != told.size,
         130: told.frees() and told.is_block() and told.length == told.size,
     }[code]
+
+
+def is_stored(code, steps, told):
+    """Whether it tells who stored the bytes exactly where they mean no value, and the step that it tells did store."""
+    if code != 107 or not told.length:
+        return told.stored is None and told.never is None
+    stores = [line.strip().startswith((b"store ", b"atomic store ")) for line in steps[told.stored - 1].below] if told.stored else []
+    return any(stores) if told.stored else told.never is not None
 
 
 def gives_up(words):
@@ -90,5 +99,6 @@ def compare(judge, what, source, steps, tail):
     if is_known:
         told = Told(lines[0])
         judge(f"{what}: what it speaks of, by its reason", bool(fits(code, told)), f"{lines[0]} of {code}")
+        judge(f"{what}: who stored what it speaks of", is_stored(code, steps, told), f"{lines[0]}")
         judge(f"{what}: the name of what it speaks of", bool(is_named(source, steps, told)), f"{lines[0]}")
     return True

@@ -4,7 +4,8 @@
 //! - [`steps`]: a line for each step that is told, with what it printed, what it did to locks and threads, its accesses by
 //!   name and with what they loaded or stored ([`StepValues`], [`Held`]), and its partners; and the verdict.
 //! - [`races`]: the listed races by pairs of places, those with most races first, each pair with how many there are.
-//! - [`push_spoken`]: what an undefined run speaks of: an allocation by its name, and where in it.
+//! - [`push_spoken`]: what an undefined run speaks of: an allocation by its name, and where in it; and of bytes that mean
+//!   no value the step that last stored there.
 //! - [`stand_text`]: where a thread stands, by the statement at which it does; [`before_of`]: where that of a step did.
 //! - [`push_name`], [`push_reached`], [`push_bytes`], [`function_word`], [`access_word`], [`acquire_word`], [`join_word`],
 //!   [`release_word`]: the parts of a line, for other texts. [`push_note`], [`push_end`], [`push_woken`], [`push_partners`] with
