@@ -1,7 +1,8 @@
 //! The accesses of a step, by the names of what they reach, and with what they loaded or stored.
 ghost use Rattle.std.specs.Prelude.{◌≡◌, ◌++◌, OnOk, option_copied, slice_get};
 ghost use Rattle.mr_listing.specs.Accesses.{access_line, access_word, accesses_text, bytes_text, held_text, line_at};
-ghost use Rattle.mr_listing.specs.Accesses.{reached_text};
+ghost use Rattle.mr_listing.specs.Accesses.{reached_text, value_text};
+ghost use Rattle.mr_listing.specs.Held.{held_for};
 ghost use Rattle.mr_listing.specs.Seen.{seen};
 ghost use Rattle.mr_labels.specs.Table.{found_at};
 
@@ -85,6 +86,21 @@ pub fn push_bytes(out: &mut Vec<u8>, count: u64) -> Result<(), OutOfMemory>
     } else {
         out.extend_from_slice(b" bytes")
     }
+}
+
+/// Appends what the access at a position of a step with these values loaded or stored, where it is told.
+pub fn push_loaded(
+    out: &mut Vec<u8>,
+    shown: &Shown<'_>,
+    here: Option<Stand>,
+    values: Option<&StepValues>,
+    at: usize,
+    access: Access,
+) -> Result<(), OutOfMemory>
+    ensures { OnOk result (out.new.items
+        ≡ out.old.items ++ value_text (seen shown.now) here (held_for (option_copied values.entry) at access)) }
+{
+    push_value(out, shown, here, held_for(values, at, access))
 }
 
 // Appends the line of an access, which loaded or stored this.

@@ -7,8 +7,8 @@
 //! - [`push_spoken`]: what an undefined run speaks of: an allocation by its name, and where in it; and of bytes that mean
 //!   no value the step that last stored there.
 //! - [`stand_text`]: where a thread stands, by the statement at which it does; [`before_of`]: where that of a step did.
-//! - [`push_name`], [`push_reached`], [`push_bytes`], [`function_word`], [`access_word`], [`acquire_word`], [`join_word`],
-//!   [`release_word`]: the parts of a line, for other texts. [`push_note`], [`push_end`], [`push_woken`], [`push_partners`] with
+//! - [`push_name`], [`push_reached`], [`push_loaded`], [`push_bytes`], [`function_word`], [`access_word`],
+//!   [`acquire_word`], [`join_word`], [`release_word`]: the parts of a line, for other texts. [`push_note`], [`push_end`], [`push_woken`], [`push_partners`] with
 //!   [`partners_of`], [`push_times`], [`push_group`]: lines of a step and of a group of races; [`rank_by_count`]: the
 //!   order of groups; [`by_places`]: the races by their places; from these [`ranked`]: the groups in that order, and
 //!   [`count_at`]: how many races are of the places of one.
@@ -32,7 +32,7 @@ mod sorted;
 mod spoken;
 mod spots;
 
-pub use accesses::{access_word, push_bytes, push_reached};
+pub use accesses::{access_word, push_bytes, push_loaded, push_reached};
 pub use events::{acquire_word, join_word, push_end, push_note, push_woken, release_word};
 pub use held::{Held, StepValues};
 pub use law::races_are_grouped;
