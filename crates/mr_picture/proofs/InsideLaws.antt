@@ -510,7 +510,7 @@ told_few s =
     let few = λ (of : Sign). length (sign_text of) ≤ 65 in
     All-filter (has_sign (flat_map as_written (drawn_marks s))) few legend_order
     (All-from_recursion few legend_order
-    (lit≤ tt, lit≤ tt, lit≤ tt, lit≤ tt, lit≤ tt, lit≤ tt, lit≤ tt, lit≤ tt, lit≤ tt, tt))
+    (lit≤ tt, (lit≤ tt, (lit≤ tt, (lit≤ tt, (lit≤ tt, (lit≤ tt, (lit≤ tt, (lit≤ tt, (lit≤ tt, tt))))))))))
 
 legend_in : (s : Scene) → All (IsIn s) (legend_marks s)
 legend_in s =

@@ -17,13 +17,13 @@ push_legend-requires-clause-few c = omega (arith, ap length c.requires.signs, le
 
 pub height-high-requires-clause-rows : goal.height-high-requires-clause-rows
 height-high-requires-clause-rows c =
-    omega (arith, ap length c.requires.signs, c.len.ensures, legend_few (scene_in c.args.scene.now))
+    omega (arith, ap length c.requires.signs, legend_few (scene_in c.args.scene.now))
 
 pub returns : goal.returns
 returns c =
     let s = scene_in c.args.scene.now in
     let high : c.height-high.result ≡ height s =
-    c.height-high.ensures ∙ ap (λ n. legend_y s n + 16) (c.len.ensures ∙ ap length c.requires.signs) in
+    c.height-high.ensures ∙ ap (λ n. legend_y s n + 16) (ap length c.requires.signs) in
     let head : c.push_head.new.out.items ≡ head_text (width s) (height s) (title_text s) =
     c.in_ok-push_head.ensures
     ∙ ap (λ (xs : List ℕ). xs ++ head_text c.width.result c.height-high.result c.args.title.now) c.new-out.ensures.items

@@ -12,8 +12,7 @@ loop-sign-preserved c =
       row = omega (arith, c.loop-sign.invariant.row);
       rest =
           row_taken marks now c.push_row.new.out.items row c.loop-sign.sign-index
-          c.args.signs.now c.sign-item.result c.loop-sign-test.true
-          (c.in_ok-push_row.ensures ∙ ap (λ (of : Sign). now ++ flat_map as_written (marks row of)) c.sign-item.is)
+          c.args.signs.now _ c.loop-sign-test.true c.in_ok-push_row.ensures
           ∙ c.loop-sign.invariant.rest;
     }
 
