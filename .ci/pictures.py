@@ -5,10 +5,10 @@
   others. All that it draws lies in its view box, and no two texts overlap, if a byte has at most 8 pixels. No link comes
   within 8 of the mark of a step that isn't one of its two. Where rsvg-convert and xmllint are there, they read those of
   docs/pictures without a complaint.
-- Its line of threads names each with the function that the step of its start tells. Its steps are those of the listing.
-  Its arrows are those that plain.py's edges give: between steps of two threads of which one comes before the other by a
-  chain of edges, where no step lies between. Its races are those of the report, and the witness's column has each drawn
-  step once where there is a race.
+- Its legend tells those signs that its other marks have. Its line of threads names each with the function that the step of
+  its start tells. Its steps are those of the listing. Its arrows are those that plain.py's edges give: between steps of two
+  threads of which one comes before the other by a chain of edges, where no step lies between. Its races are those of the
+  report, and the witness's column has each drawn step once where there is a race.
 
     python3 .ci/pictures.py [--write] [COMPANION]      the first check alone; with --write it makes the pictures
 """
@@ -34,6 +34,12 @@ KNOWN = {"svg": {"width", "height", "viewBox", "role", "{http://www.w3.org/XML/1
 # The arrows by their signs, each with what its title says of it.
 ARROWS = {"wake": ": it woke or started its thread", "dependence": ", which depends on it",
           "machine-order": ", which depends on it; Rust's order has no such arrow"}
+
+# What the legend says of each sign that it tells.
+LEGEND = {"step": "a step, in the lane of its thread; later ones are below", "racing": "a step of a race", "stop": "the step that ended the run",
+          "left-out": "a step that the witness leaves out", "wake": "the first step woke or started that thread",
+          "dependence": "the second step depends on the first one", "machine-order": "it depends on the first one, but not in Rust's order",
+          "first-race": "the first race: neither step happens before the other", "race": "another race"}
 
 
 def read(path):
@@ -212,6 +218,13 @@ def threads_named(picture):
     return [it for it in picture.titled("note") if it.startswith("T0 ")], wanted
 
 
+def told_and_drawn(picture):
+    """The signs that the legend tells, and those that the other marks have."""
+    words = set(LEGEND.values())
+    told = [sign for sign, says in LEGEND.items() if says in picture.titled("note")]
+    return told, [sign for sign in LEGEND if any(title not in words for title in picture.titled(sign))]
+
+
 def numbers(titles, form):
     return [int(re.fullmatch(form, it, re.S).group(1)) for it in titles if re.fullmatch(form, it, re.S)]
 
@@ -225,6 +238,8 @@ def picture(judge, what, text, steps, feet, pairs):
     judge(f"{what}: no link of its picture comes near a foreign mark", not list(too_near(it)), f"{list(too_near(it))[:3]}")
     marks = sorted(numbers(it.titled("step") + it.titled("racing") + it.titled("stop"), r"step (\d+), thread .*"))
     judge(f"{what}: the steps of its picture", marks == [step.number for step in steps], f"{marks}")
+    told, wanted = told_and_drawn(it)
+    judge(f"{what}: the legend of its picture", told == wanted, f"{told}, not {wanted}")
     named, wanted = threads_named(it)
     judge(f"{what}: the threads of its picture", not wanted or named == wanted, f"{named}, not {wanted}")
     wanted = sorted(arrows(feet))

@@ -14,7 +14,7 @@ unfoldable pub use Rattle.mr_event.specs.Predicted.{happens_before}
 pub use Rattle.mr_event.specs.declared.footprint.Pair.{Pair}
 pub use Rattle.mr_listing.specs.Seen.{Seen, seen}
 pub use Rattle.mr_rust_order.specs.Tracked.{Tracks}
-pub use Rattle.mr_svg.specs.Svg.{Mark, mark_text}
+pub use Rattle.mr_svg.specs.Svg.{Mark}
 pub use Rattle.mr_svg.specs.declared.shape.Point.{Point}
 pub use Rattle.mr_svg.specs.declared.shape.Shape.TheVariants.{Bend, Diamond, Dot, Square, Words}
 pub use Rattle.mr_picture.specs.Arrows.{arrow_from, arrows, arrows_to, lies_between}
@@ -23,14 +23,16 @@ pub use Rattle.mr_picture.specs.Drawn.{drawn_steps, sketch_of}
 pub use Rattle.mr_picture.specs.Ends.{behind_line, first_line, head_marks, line_marks, part_mark, tail_mark, title_mark}
 pub use Rattle.mr_picture.specs.Grid.{row_y, rows_end, tail_count}
 pub use Rattle.mr_picture.specs.Lanes.{ends, first_that, lane_mark, lane_marks, name_mark, starts}
-pub use Rattle.mr_picture.specs.Legend.{arrow_entry, entry, legend_marks, link_entries, middle, race_entry, sample, step_entries, words_mark}
+pub use Rattle.mr_picture.specs.Legend.{arrow_entry, entry, legend_marks, legend_row, middle, race_entry, sample, words_mark}
 pub use Rattle.mr_picture.specs.Links.{arrow_between, arrow_mark, beside, corner_of, foot_place, is_wake, race_between, race_mark}
-pub use Rattle.mr_picture.specs.Picture.{round_marks, scene_text}
+pub use Rattle.mr_picture.specs.Marks.{drawn_marks, round_marks}
+pub use Rattle.mr_picture.specs.Picture.{scene_text}
 pub use Rattle.mr_picture.specs.Scene.{done_in, IsRace, IsSmall, near_in, race_in, Scene, scene_in, scene_of, Sketch, takes_one}
 pub use Rattle.mr_picture.specs.Span.{holds_race, is_in, races_in, steps_in}
 pub use Rattle.mr_picture.specs.Steps.{did_mark, mark_of, number_mark, row_marks, stand_mark, step_mark, step_marks}
 pub use Rattle.mr_picture.specs.Texts.{cut_at}
 pub use Rattle.mr_picture.specs.Way.{leads, next_step, way, way_within}
 pub use Rattle.mr_picture.specs.Witness.{is_left_out, is_other, left_out, witness_steps}
+pub use Rattle.mr_picture.specs.Written.{as_written}
 pub use Rattle.mr_picture.specs.declared.scene.Drawn.{Drawn}
 pub use Rattle.mr_picture.specs.declared.span.Span.{Span}

@@ -1,8 +1,8 @@
 -- Each mark of a picture lies inside it.
-use Rattle.mr_picture.proofs.Common.{◌≡◌, ℕ, zero, suc, ◌+◌, ◌-◌, ◌*◌, ◌<◌, ◌≤◌, ◌^◌, Bool, true, false, List, [], ◌∷◌, ◌++◌, length, map, refl, ap, arith, and_parts, length-append, All-weaker, ◌==◌, All, Option, None, Some, codes, decimal, flat_map, if◌then◌else◌, nat_le, nat_lt, slice_get, Contains, filter, range_with_len, Pair, thread_at, Seen, Span, arrows, holds_race, is_in, races_in, steps_in, left_out, witness_steps, Point, Diamond, Dot, Square, Words, Mark, Drawn, column_marks, column_name, column_place, column_race, kept_mark, kept_marks, kept_number, left_mark, left_marks, left_number, rows_marks, behind_line, first_line, head_marks, line_marks, part_mark, tail_mark, title_mark, row_y, rows_end, tail_count, ends, first_that, lane_mark, lane_marks, name_mark, starts, arrow_entry, entry, legend_marks, link_entries, middle, race_entry, sample, step_entries, words_mark, arrow_mark, foot_place, is_wake, race_mark, drawn_steps, sketch_of, round_marks, Scene, Sketch, done_in, race_in, scene_of, takes_one, did_mark, mark_of, number_mark, row_marks, stand_mark, step_mark, step_marks, cut_at}
+use Rattle.mr_picture.proofs.Common.{◌≡◌, ℕ, zero, suc, ◌+◌, ◌-◌, ◌*◌, ◌<◌, ◌≤◌, ◌^◌, Bool, true, false, List, [], ◌∷◌, ◌++◌, length, map, refl, ap, arith, and_parts, length-append, All-weaker, ◌==◌, All, Option, None, Some, codes, decimal, flat_map, if◌then◌else◌, nat_le, nat_lt, slice_get, Contains, filter, range_with_len, Pair, thread_at, Seen, Span, arrows, holds_race, is_in, races_in, steps_in, left_out, witness_steps, Point, Diamond, Dot, Words, Mark, Drawn, column_marks, column_name, column_place, column_race, kept_mark, kept_marks, kept_number, left_mark, left_marks, left_number, rows_marks, behind_line, first_line, head_marks, line_marks, part_mark, tail_mark, title_mark, row_y, rows_end, tail_count, ends, first_that, lane_mark, lane_marks, name_mark, starts, arrow_entry, legend_marks, middle, race_entry, sample, words_mark, arrow_mark, foot_place, is_wake, race_mark, drawn_steps, sketch_of, round_marks, Scene, Sketch, done_in, race_in, scene_of, takes_one, did_mark, mark_of, number_mark, row_marks, stand_mark, step_mark, step_marks, cut_at, as_written, drawn_marks, legend_row}
 use Rattle.std.proofs.Common.{lit≤}
 use Rattle.std.proofs.lemmas.Fmt.{length-decimal-le}
-use Rattle.std.proofs.lemmas.List.Elements.{All-append, All-cons, All-contains, All-filter, All-head, All-map, All-nil, All-tail, filter_passes}
+use Rattle.std.proofs.lemmas.List.Elements.{All-append, All-cons, All-contains, All-filter, All-from_recursion, All-head, All-map, All-nil, All-tail, filter_passes}
 use Rattle.std.proofs.lemmas.List.Sums.{count_by-le-length}
 use Rattle.std.specs.Prelude.{◌%◌, IfSome}
 use Rattle.mr_labels.specs.declared.step.ToldStep.{ToldStep}
@@ -11,10 +11,12 @@ use Rattle.mr_svg.specs.declared.shape.Sign.{Sign}
 use Rattle.mr_picture.specs.declared.steps.Part.{Part}
 use Rattle.mr_picture.specs.Column.{column_of, is_of_race, kept_shape, number_place}
 use Rattle.mr_picture.specs.Ends.{line_room, names_mark, names_marks, part_text, title_text}
-use Rattle.mr_picture.specs.Grid.{column_width, column_x, height, lane_x, legend_y, place_of, tail_y, text_x, width}
+use Rattle.mr_picture.specs.Grid.{column_width, column_x, lane_x, legend_y, place_of, tail_y, text_x, width}
 use Rattle.mr_picture.specs.Inside.{IsInside, IsLineInside, IsPointInside, IsRoundInside, IsShapeInside}
 use Rattle.mr_picture.specs.Lanes.{row_or, short_name}
-use Rattle.mr_picture.specs.Legend.{left_end, linked, right_end}
+use Rattle.mr_picture.specs.Legend.{has_sign, height, is_arrow, is_race, left_end, legend_order, linked, part_with, right_end}
+use Rattle.mr_picture.specs.Legend.{sign_text, step_entry}
+unfoldable use Rattle.mr_picture.specs.Legend.{legend_signs}
 use Rattle.mr_picture.specs.Drawn.{asked_scene, drawn_of, is_drawn}
 use Rattle.mr_picture.specs.Picture.{marks}
 use Rattle.mr_picture.specs.Scene.{begin_at, chosen, clipped}
@@ -101,14 +103,14 @@ module _ (P : Mark → Type 0) where
   all_four a b c d ha hb hc hd = All-cons P a (b ∷ c ∷ d ∷ []) ha (all_three b c d hb hc hd)
 
 -- marks that stand one a row
-rows_inside : (P : Mark → Type 0) (Q : ℕ → Type 0) (marks : ℕ → ℕ → List Mark) (rows : ℕ)
-    → ((row step : ℕ) → row < rows → Q step → All P (marks row step))
-    → (row : ℕ) (steps : List ℕ) → row + length steps ≤ rows → All Q steps → All P (rows_marks marks row steps)
+rows_inside : {X : Type 0} (P : Mark → Type 0) (Q : X → Type 0) (marks : ℕ → X → List Mark) (rows : ℕ)
+    → ((row : ℕ) (x : X) → row < rows → Q x → All P (marks row x))
+    → (row : ℕ) (xs : List X) → row + length xs ≤ rows → All Q xs → All P (rows_marks marks row xs)
 rows_inside P Q marks rows f row [] le h = All-nil P
-rows_inside P Q marks rows f row (step ∷ steps) le h =
-    All-append P (marks row step) (rows_marks marks (row + 1) steps)
-    (f row step (omega (arith, le)) (All-head Q step steps h))
-    (rows_inside P Q marks rows f (row + 1) steps (omega (arith, le)) (All-tail Q step steps h))
+rows_inside P Q marks rows f row (x ∷ xs) le h =
+    All-append P (marks row x) (rows_marks marks (row + 1) xs)
+    (f row x (omega (arith, le)) (All-head Q x xs h))
+    (rows_inside P Q marks rows f (row + 1) xs (omega (arith, le)) (All-tail Q x xs h))
 
 -- ---- a scene's room
 
@@ -118,7 +120,7 @@ IsIn s m = IsInside (width s) (height s) m
 wide_enough : (s : Scene) → text_x s + 520 ≤ width s
 wide_enough s = omega arith
 
-high_enough : (s : Scene) → rows_end s + 240 ≤ height s
+high_enough : (s : Scene) → rows_end s + 80 ≤ height s
 high_enough s = omega arith
 
 text_behind : (s : Scene) → 80 ≤ text_x s
@@ -434,25 +436,28 @@ tail_in s n (suc count) text le =
 
 -- ---- the legend
 
-legend_below : (s : Scene) (n : ℕ) → n ≤ 8 → legend_y s n + 22 ≤ height s
-legend_below s n le = omega (arith, le)
+abbrev IsRow : Scene → ℕ → Type 0
+IsRow s n = n < length (legend_signs s)
+
+legend_below : (s : Scene) (n : ℕ) → IsRow s n → legend_y s n + 22 ≤ height s
+legend_below s n lt = omega (arith, lt)
 
 legend_above : (s : Scene) (n : ℕ) → 100 ≤ legend_y s n
 legend_above s n = omega arith
 
-words_in : (s : Scene) (n : ℕ) (words : List ℕ) → n ≤ 8 → length words ≤ 65 → IsIn s (words_mark s n words)
-words_in s n words le few =
+words_in : (s : Scene) (n : ℕ) (words : List ℕ) → IsRow s n → length words ≤ 65 → IsIn s (words_mark s n words)
+words_in s n words lt few =
     let fits = wide_enough s in
     let behind = text_behind s in
-    let below = legend_below s n le in
+    let below = legend_below s n lt in
     let above = legend_above s n in
     (omega (arith, fits, behind, few), record { above = omega (arith, above); below = omega (arith, below) })
 
-sample_in : (s : Scene) (x n : ℕ) → 8 ≤ x → x ≤ 80 → n ≤ 8
+sample_in : (s : Scene) (x n : ℕ) → 8 ≤ x → x ≤ 80 → IsRow s n
     → IsRoundInside (width s) (height s) (record { x = x; y = legend_y s n })
-sample_in s x n low high le =
+sample_in s x n low high lt =
     let fits = wide_enough s in
-    let below = legend_below s n le in
+    let below = legend_below s n lt in
     let above = legend_above s n in
     record {
       left = low;
@@ -461,70 +466,57 @@ sample_in s x n low high le =
       below = omega (arith, below);
     }
 
-entry_in : (s : Scene) (n : ℕ) (of : Sign) (shape : Shape) (words : List ℕ) → n ≤ 8 → length words ≤ 65
-    → IsShapeInside (width s) (height s) [] shape → All (IsIn s) (entry s n of shape words)
-entry_in s n of shape words le few h =
-    all_two (IsIn s) (mark_of of shape [] words) (words_mark s n words) h (words_in s n words le few)
-
-linked_in : (s : Scene) (n : ℕ) (of end : Sign) (one other : Shape) (words : List ℕ) → n ≤ 8 → length words ≤ 65
+linked_in : (s : Scene) (n : ℕ) (of end : Sign) (one other : Shape) (words : List ℕ) → IsRow s n → length words ≤ 65
     → IsShapeInside (width s) (height s) [] one → IsShapeInside (width s) (height s) [] other
     → All (IsIn s) (linked s n of end one other words)
-linked_in s n of end one other words le few ha hb =
-    let left = sample_in s 18 n (omega arith) (omega arith) le in
-    let right = sample_in s 62 n (omega arith) (omega arith) le in
+linked_in s n of end one other words lt few ha hb =
+    let left = sample_in s 18 n (omega arith) (omega arith) lt in
+    let right = sample_in s 62 n (omega arith) (omega arith) lt in
     all_four (IsIn s) (mark_of of (sample s n) [] words) (mark_of end one [] words) (mark_of end other [] words)
     (words_mark s n words) (
       record { across = omega (arith, left.right); down = omega (arith, left.below) },
       record { across = omega (arith, right.right); down = omega (arith, right.below) },
     )
-    ha hb (words_in s n words le few)
+    ha hb (words_in s n words lt few)
 
-steps_told : (s : Scene) → All (IsIn s) (step_entries s)
-steps_told s =
-    let steps = entry s 0 sign.Step (Dot (middle s 0)) (codes "a step, in the lane of its thread; later ones are below") in
-    let races = entry s 1 sign.Racing (Diamond (middle s 1)) (codes "a step of a race") in
-    let stop = entry s 2 sign.Stop (Square (middle s 2)) (codes "the step that ended the run") in
-    let left = entry s 3 sign.LeftOut (Dot (middle s 3)) (codes "a step that the witness leaves out") in
-    All-append (IsIn s) (steps ++ races ++ stop) left
-    (All-append (IsIn s) (steps ++ races) stop
-    (All-append (IsIn s) steps races
-    (entry_in s 0 sign.Step (Dot (middle s 0)) (codes "a step, in the lane of its thread; later ones are below")
-    (omega arith) (lit≤ tt) (sample_in s 40 0 (omega arith) (omega arith) (omega arith)))
-    (entry_in s 1 sign.Racing (Diamond (middle s 1)) (codes "a step of a race")
-    (omega arith) (lit≤ tt) (sample_in s 40 1 (omega arith) (omega arith) (omega arith))))
-    (entry_in s 2 sign.Stop (Square (middle s 2)) (codes "the step that ended the run")
-    (omega arith) (lit≤ tt) (sample_in s 40 2 (omega arith) (omega arith) (omega arith))))
-    (entry_in s 3 sign.LeftOut (Dot (middle s 3)) (codes "a step that the witness leaves out")
-    (omega arith) (lit≤ tt) (sample_in s 40 3 (omega arith) (omega arith) (omega arith)))
+-- a row is an arrow, a race, or a step
+row_told : (s : Scene) (n : ℕ) (of : Sign) → IsRow s n → length (sign_text of) ≤ 65 → All (IsIn s) (legend_row s n of)
+row_told s n of lt few = by (is_arrow of) (is_race of)
+  where
+    left : IsRoundInside (width s) (height s) (left_end s n)
+    left = sample_in s 18 n (omega arith) (omega arith) lt
 
-arrow_told : (s : Scene) (n : ℕ) (of : Sign) (words : List ℕ) → n ≤ 8 → length words ≤ 65
-    → All (IsIn s) (arrow_entry s n of words)
-arrow_told s n of words le few =
-    linked_in s n of sign.Step (Dot (left_end s n)) (Dot (right_end s n)) words le few
-    (sample_in s 18 n (omega arith) (omega arith) le) (sample_in s 62 n (omega arith) (omega arith) le)
+    right : IsRoundInside (width s) (height s) (right_end s n)
+    right = sample_in s 62 n (omega arith) (omega arith) lt
 
-race_told : (s : Scene) (n : ℕ) (of : Sign) (words : List ℕ) → n ≤ 8 → length words ≤ 65
-    → All (IsIn s) (race_entry s n of words)
-race_told s n of words le few =
-    linked_in s n of sign.Racing (Diamond (left_end s n)) (Diamond (right_end s n)) words le few
-    (sample_in s 18 n (omega arith) (omega arith) le) (sample_in s 62 n (omega arith) (omega arith) le)
+    step : (p : Part) → IsShapeInside (width s) (height s) [] (part_shape p (middle s n))
+    step part.Stopped = sample_in s 40 n (omega arith) (omega arith) lt
+    step part.Racing = sample_in s 40 n (omega arith) (omega arith) lt
+    step part.Plain = sample_in s 40 n (omega arith) (omega arith) lt
 
-links_told : (s : Scene) → All (IsIn s) (link_entries s)
-links_told s =
-    let wake = arrow_entry s 4 sign.Wake (codes "the first step woke or started that thread") in
-    let dependence = arrow_entry s 5 sign.Dependence (codes "the second step depends on the first one") in
-    let machine = arrow_entry s 6 sign.MachineOrder (codes "the same, where Rust's order has no such arrow") in
-    let first = race_entry s 7 sign.FirstRace (codes "the first race: neither step happens before the other") in
-    let race = race_entry s 8 sign.Race (codes "another race") in
-    All-append (IsIn s) (wake ++ dependence ++ machine ++ first) race
-    (All-append (IsIn s) (wake ++ dependence ++ machine) first
-    (All-append (IsIn s) (wake ++ dependence) machine
-    (All-append (IsIn s) wake dependence
-    (arrow_told s 4 sign.Wake (codes "the first step woke or started that thread") (omega arith) (lit≤ tt))
-    (arrow_told s 5 sign.Dependence (codes "the second step depends on the first one") (omega arith) (lit≤ tt)))
-    (arrow_told s 6 sign.MachineOrder (codes "the same, where Rust's order has no such arrow") (omega arith) (lit≤ tt)))
-    (race_told s 7 sign.FirstRace (codes "the first race: neither step happens before the other") (omega arith) (lit≤ tt)))
-    (race_told s 8 sign.Race (codes "another race") (omega arith) (lit≤ tt))
+    by : (arrow race : Bool) → All (IsIn s) (if arrow then arrow_entry s n of (sign_text of)
+        else (if race then race_entry s n of (sign_text of) else step_entry s n of (sign_text of)))
+    by true race = linked_in s n of sign.Step (Dot (left_end s n)) (Dot (right_end s n)) (sign_text of) lt few left right
+    by false true =
+        linked_in s n of sign.Racing (Diamond (left_end s n)) (Diamond (right_end s n)) (sign_text of) lt few left right
+    by false false =
+        all_two (IsIn s) (mark_of of (part_shape (part_with of) (middle s n)) [] (sign_text of)) (words_mark s n (sign_text of))
+        (step (part_with of)) (words_in s n (sign_text of) lt few)
+
+-- what it says is short
+told_few : (s : Scene) → All (λ (of : Sign). length (sign_text of) ≤ 65) (legend_signs s)
+unfolding legend_signs
+told_few s =
+    let few = λ (of : Sign). length (sign_text of) ≤ 65 in
+    All-filter (has_sign (flat_map as_written (drawn_marks s))) few legend_order
+    (All-from_recursion few legend_order
+    (lit≤ tt, (lit≤ tt, (lit≤ tt, (lit≤ tt, (lit≤ tt, (lit≤ tt, (lit≤ tt, (lit≤ tt, (lit≤ tt, tt))))))))))
+
+legend_in : (s : Scene) → All (IsIn s) (legend_marks s)
+legend_in s =
+    let signs = legend_signs s in
+    rows_inside (IsIn s) (λ (of : Sign). length (sign_text of) ≤ 65) (legend_row s) (length signs)
+    (λ n of lt few. row_told s n of lt few) 0 signs (omega arith) (told_few s)
 
 -- ---- all of them
 
@@ -532,11 +524,9 @@ round_in : (s : Scene) → IsLaid s → All (IsIn s) (round_marks s)
 round_in s h =
     let column = column_marks s s.first in
     let tail = line_marks s 0 (tail_count s) s.sketch.tail in
-    All-append (IsIn s) (column ++ head_marks s ++ tail) (legend_marks s)
-    (All-append (IsIn s) (column ++ head_marks s) tail
+    All-append (IsIn s) (column ++ head_marks s) tail
     (All-append (IsIn s) column (head_marks s) (column_in s s.first h refl h.first) (heads_in s))
-    (tail_in s 0 (tail_count s) s.sketch.tail (omega arith)))
-    (All-append (IsIn s) (step_entries s) (link_entries s) (steps_told s) (links_told s))
+    (tail_in s 0 (tail_count s) s.sketch.tail (omega arith))
 
 rows_all : (s : Scene) → All (IsIn s) (flat_map (row_marks s) (steps_in s.span))
 rows_all s =
@@ -563,8 +553,8 @@ steps_all s h =
     step_in s d h
     (All-contains (λ d. (s.span.from ≤ d.number) × (d.number < s.span.to)) s.steps d h.steps there))
 
-all_in : (s : Scene) → IsLaid s → All (IsIn s) (marks s)
-all_in s h =
+drawn_in : (s : Scene) → IsLaid s → All (IsIn s) (drawn_marks s)
+drawn_in s h =
     let rows = flat_map (row_marks s) (steps_in s.span) in
     let lanes = flat_map (lane_marks s) s.threads in
     let links = map (arrow_mark s) (arrows s.sketch.feet s.done) in
@@ -579,6 +569,9 @@ all_in s h =
     (arrows_all s h))
     (steps_all s h))
     (round_in s h)
+
+all_in : (s : Scene) → IsLaid s → All (IsIn s) (marks s)
+all_in s h = All-append (IsIn s) (drawn_marks s) (legend_marks s) (drawn_in s h) (legend_in s)
 
 -- THE LAW, of any run of which these steps are drawn
 pub marks_inside : (s : Sketch) (span : Span) (steps : List Drawn) → span.to ≤ 2 ^ 22

@@ -3,6 +3,7 @@ pub mod ClearLaws
 mod Common
 pub mod Counts
 pub mod InsideLaws
+pub mod LegendLaws
 pub mod LinkLaws
 pub mod Marks
 pub mod Members

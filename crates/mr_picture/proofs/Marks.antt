@@ -10,7 +10,7 @@ single : {X Y : Type 0} (f : X → List Y) (x : X) → flat_map f (x ∷ []) ≡
 single f x = append-nil (f x)
 
 -- the marks of one element more of a list
-pub marks_behind : {X Y : Type 0} (g : Y → List ℕ) (f : X → List Y) (old now next : List ℕ) (xs : List X) (i : ℕ) (x : X)
+pub marks_behind : {X Y Z : Type 0} (g : Y → List Z) (f : X → List Y) (old now next : List Z) (xs : List X) (i : ℕ) (x : X)
     → i < length xs → x ≡ get_or xs i x → now ≡ old ++ flat_map g (flat_map f (take i xs)) → next ≡ now ++ flat_map g (f x)
     → next ≡ old ++ flat_map g (flat_map f (take (i + 1) xs))
 marks_behind g f old now next xs i x inside is here more =
@@ -22,7 +22,7 @@ marks_behind g f old now next xs i x inside is here more =
     ∙ ap (λ ys. flat_map g (flat_map f ys)) (ap (λ y. take i xs ++ y ∷ []) is ∙ sym (take_more xs i x inside)))
 
 -- the same of one mark each
-pub mark_behind : {X Y : Type 0} (g : Y → List ℕ) (f : X → Y) (old now next : List ℕ) (xs : List X) (i : ℕ) (x : X)
+pub mark_behind : {X Y Z : Type 0} (g : Y → List Z) (f : X → Y) (old now next : List Z) (xs : List X) (i : ℕ) (x : X)
     → i < length xs → x ≡ get_or xs i x → now ≡ old ++ flat_map g (map f (take i xs)) → next ≡ now ++ g (f x)
     → next ≡ old ++ flat_map g (map f (take (i + 1) xs))
 mark_behind g f old now next xs i x inside is here more =
@@ -34,7 +34,7 @@ mark_behind g f old now next xs i x inside is here more =
     ∙ ap (λ ys. flat_map g (map f ys)) (ap (λ y. take i xs ++ y ∷ []) is ∙ sym (take_more xs i x inside)))
 
 -- the marks of one number more
-pub row_behind : {Y : Type 0} (g : Y → List ℕ) (f : ℕ → List Y) (old now next : List ℕ) (a k : ℕ) → a ≤ k
+pub row_behind : {Y Z : Type 0} (g : Y → List Z) (f : ℕ → List Y) (old now next : List Z) (a k : ℕ) → a ≤ k
     → now ≡ old ++ flat_map g (flat_map f (range_with_len a (k - a))) → next ≡ now ++ flat_map g (f k)
     → next ≡ old ++ flat_map g (flat_map f (range_with_len a (k + 1 - a)))
 row_behind g f old now next a k le here more =
@@ -48,22 +48,22 @@ row_behind g f old now next a k le here more =
 
 -- ---- marks that are told one by one
 
-pub begun : {Y : Type 0} (g : Y → List ℕ) (old : List ℕ) → old ≡ old ++ flat_map g []
+pub begun : {Y Z : Type 0} (g : Y → List Z) (old : List Z) → old ≡ old ++ flat_map g []
 begun g old = sym (append-nil old)
 
-pub more_marks : {Y : Type 0} (g : Y → List ℕ) (old now next : List ℕ) (ys zs : List Y) → now ≡ old ++ flat_map g ys
+pub more_marks : {Y Z : Type 0} (g : Y → List Z) (old now next : List Z) (ys zs : List Y) → now ≡ old ++ flat_map g ys
     → next ≡ now ++ flat_map g zs → next ≡ old ++ flat_map g (ys ++ zs)
 more_marks g old now next ys zs here more =
     more ∙ ap (λ xs. xs ++ flat_map g zs) here ∙ append_assoc old (flat_map g ys) (flat_map g zs)
     ∙ ap (λ xs. old ++ xs) (sym (flat_map-append g ys zs))
 
-pub more_mark : {Y : Type 0} (g : Y → List ℕ) (old now next : List ℕ) (ys : List Y) (y : Y) → now ≡ old ++ flat_map g ys
+pub more_mark : {Y Z : Type 0} (g : Y → List Z) (old now next : List Z) (ys : List Y) (y : Y) → now ≡ old ++ flat_map g ys
     → next ≡ now ++ g y → next ≡ old ++ flat_map g (ys ++ y ∷ [])
 more_mark g old now next ys y here more =
     more_marks g old now next ys (y ∷ []) here (more ∙ ap (λ xs. now ++ xs) (sym (single g y)))
 
 -- the same of the marks of what one number more makes
-pub mapped_behind : {X Y : Type 0} (g : Y → List ℕ) (h : X → Y) (f : ℕ → List X) (old now next : List ℕ) (a k : ℕ) → a ≤ k
+pub mapped_behind : {X Y Z : Type 0} (g : Y → List Z) (h : X → Y) (f : ℕ → List X) (old now next : List Z) (a k : ℕ) → a ≤ k
     → now ≡ old ++ flat_map g (map h (flat_map f (range_with_len a (k - a)))) → next ≡ now ++ flat_map g (map h (f k))
     → next ≡ old ++ flat_map g (map h (flat_map f (range_with_len a (k + 1 - a))))
 mapped_behind g h f old now next a k le here more =
@@ -75,12 +75,12 @@ mapped_behind g h f old now next a k le here more =
     ∙ ap (λ xs. old ++ flat_map g (map h (flat_map f xs))) (sym (one_more a k le))
 
 -- the same of the last ones, where the memory may be used up
-pub last_marks : {Y T E : Type 0} (g : Y → List ℕ) (r : Result T E) (old now next : List ℕ) (ys zs : List Y)
+pub last_marks : {Y Z T E : Type 0} (g : Y → List Z) (r : Result T E) (old now next : List Z) (ys zs : List Y)
     → now ≡ old ++ flat_map g ys → OnOk r (next ≡ now ++ flat_map g zs) → OnOk r (next ≡ old ++ flat_map g (ys ++ zs))
 last_marks g (Ok x) old now next ys zs here more = more_marks g old now next ys zs here more
 last_marks g (Err e) old now next ys zs here more = tt
 
-pub last_mark : {Y T E : Type 0} (g : Y → List ℕ) (r : Result T E) (old now next : List ℕ) (ys : List Y) (y : Y)
+pub last_mark : {Y Z T E : Type 0} (g : Y → List Z) (r : Result T E) (old now next : List Z) (ys : List Y) (y : Y)
     → now ≡ old ++ flat_map g ys → OnOk r (next ≡ now ++ g y) → OnOk r (next ≡ old ++ flat_map g (ys ++ y ∷ []))
 last_mark g (Ok x) old now next ys y here more = more_mark g old now next ys y here more
 last_mark g (Err e) old now next ys y here more = tt

@@ -27,7 +27,7 @@ in_part span k e =
     (grind (arith, nat_tests, both.0), grind (arith, nat_tests, both.1))
 
 -- a picture so wide and so high, with the texts of steps from a place on and with the rows up to one
-module _ (wide high text end : ℕ) (fits : text + 520 ≤ wide) (deep : end + 240 ≤ high) where
+module _ (wide high text end : ℕ) (fits : text + 520 ≤ wide) (deep : end + 80 ≤ high) where
   -- a point in a lane and a row
   pub record IsPlace (at : Point) : Type 0 where
     pub left : 80 ≤ at.x

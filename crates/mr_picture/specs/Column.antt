@@ -84,10 +84,10 @@ abbrev pub marks_in : (ℕ → ℕ → List Mark) → ℕ → Option ℕ → Lis
 marks_in marks row None = []
 marks_in marks row (Some step) = marks row step
 
--- the marks of these steps, one a row, from a row on
-abbrev pub rows_marks : (ℕ → ℕ → List Mark) → ℕ → List ℕ → List Mark
+-- the marks of these, one a row, from a row on
+abbrev pub rows_marks : {X : Type 0} → (ℕ → X → List Mark) → ℕ → List X → List Mark
 rows_marks marks row [] = []
-rows_marks marks row (step ∷ steps) = marks row step ++ rows_marks marks (row + 1) steps
+rows_marks marks row (x ∷ xs) = marks row x ++ rows_marks marks (row + 1) xs
 
 -- ---- the column
 

@@ -48,10 +48,6 @@ tail_count s = min (count_by is_line_end s.sketch.tail) 40
 abbrev pub tail_y : Scene → ℕ → ℕ
 tail_y s n = rows_end s + 44 + 20 * n
 
--- a line of the legend
+-- a row of the legend
 abbrev pub legend_y : Scene → ℕ → ℕ
 legend_y s n = tail_y s (tail_count s) + 20 + 22 * n
-
--- behind the nine lines of the legend
-abbrev pub height : Scene → ℕ
-height s = legend_y s 9

@@ -9,6 +9,7 @@ pub mod Inside
 pub mod Lanes
 pub mod Legend
 pub mod Links
+pub mod Marks
 pub mod Partners
 pub mod Picture
 pub mod Scene
@@ -18,3 +19,4 @@ pub mod Texts
 pub mod Way
 pub mod WayTexts
 pub mod Witness
+pub mod Written

@@ -2,7 +2,7 @@
 ghost use Rattle.std.specs.Prelude.{◌≡◌, ◌<◌, ◌≤◌, ◌++◌, IfOk, OnOk, flat_map, length, map};
 ghost use Rattle.mr_clocks.specs.Tracked.{Tracks};
 ghost use Rattle.mr_rust_order.specs.Tracked.{Tracks as RustTracks};
-ghost use Rattle.mr_svg.specs.Svg.{mark_text};
+ghost use Rattle.mr_picture.specs.Written.{as_written};
 ghost use Rattle.mr_picture.specs.Arrows.{arrow_from, arrows, arrows_to};
 ghost use Rattle.mr_picture.specs.Links.{arrow_mark};
 ghost use Rattle.mr_picture.specs.Scene.{IsSmall, IsStep, scene_in};
@@ -11,6 +11,7 @@ use crate::OutOfMemory;
 use crate::links::push_arrow;
 use crate::order::is_arrow;
 use crate::scene::Scene;
+use crate::written::Written;
 use mr_clocks::Analysis;
 use mr_event::{Footprint, Pair};
 use mr_rust_order::Analysis as RustOrder;
@@ -31,7 +32,7 @@ fn rusts_order(alloc: Global, run: &[Footprint], count: usize) -> Result<RustOrd
 // Appends the arrow from a step to a later one, if there is one.
 fn push_arrow_from(
     alloc: Global,
-    out: &mut Vec<u8>,
+    out: &mut Vec<Written>,
     scene: &Scene<'_>,
     order: &Analysis,
     rust: &RustOrder,
@@ -43,7 +44,7 @@ fn push_arrow_from(
     requires second { IsStep (scene_in scene.now) second }
     requires tracks { Tracks order.now (scene_in scene.now).sketch.feet }
     requires rust { RustTracks (scene_in scene.now).sketch.feet second rust.now }
-    ensures { OnOk result (out.new.items ≡ out.old.items ++ flat_map mark_text
+    ensures { OnOk result (out.new.items ≡ out.old.items ++ flat_map as_written
         (map (arrow_mark (scene_in scene.now)) (arrow_from (scene_in scene.now).sketch.feet second first))) }
 {
     if is_arrow(scene.sketch.feet, order, first, second) {
@@ -55,7 +56,7 @@ fn push_arrow_from(
 // Appends the arrows to a step.
 fn push_arrows_to(
     alloc: Global,
-    out: &mut Vec<u8>,
+    out: &mut Vec<Written>,
     scene: &Scene<'_>,
     order: &Analysis,
     rust: &RustOrder,
@@ -65,7 +66,7 @@ fn push_arrows_to(
     requires second { IsStep (scene_in scene.now) second }
     requires tracks { Tracks order.now (scene_in scene.now).sketch.feet }
     requires rust { RustTracks (scene_in scene.now).sketch.feet second rust.now }
-    ensures { OnOk result (out.new.items ≡ out.old.items ++ flat_map mark_text (map (arrow_mark (scene_in scene.now))
+    ensures { OnOk result (out.new.items ≡ out.old.items ++ flat_map as_written (map (arrow_mark (scene_in scene.now))
         (arrows_to (scene_in scene.now).sketch.feet (scene_in scene.now).done.from second))) }
 {
     for first in scene.done.from..second {
@@ -77,7 +78,7 @@ fn push_arrows_to(
 // Appends the arrows to each step that is drawn; Rust's order is known up to the first.
 fn push_each_arrow(
     alloc: Global,
-    out: &mut Vec<u8>,
+    out: &mut Vec<Written>,
     scene: &Scene<'_>,
     order: &Analysis,
     rust: &mut RustOrder,
@@ -86,7 +87,7 @@ fn push_each_arrow(
     requires tracks { Tracks order.now (scene_in scene.now).sketch.feet }
     requires from { (scene_in scene.now).done.from ≤ (scene_in scene.now).done.to }
     requires rust { RustTracks (scene_in scene.now).sketch.feet (scene_in scene.now).done.from rust.old }
-    ensures { OnOk result (out.new.items ≡ out.old.items ++ flat_map mark_text
+    ensures { OnOk result (out.new.items ≡ out.old.items ++ flat_map as_written
         (map (arrow_mark (scene_in scene.now)) (arrows (scene_in scene.now).sketch.feet (scene_in scene.now).done))) }
 {
     for second in scene.done.from..scene.done.to {
@@ -99,13 +100,13 @@ fn push_each_arrow(
 /// Appends the arrows between the steps that are drawn, by rising second step.
 pub(crate) fn push_arrows(
     alloc: Global,
-    out: &mut Vec<u8>,
+    out: &mut Vec<Written>,
     scene: &Scene<'_>,
     order: &Analysis,
 ) -> Result<(), OutOfMemory>
     requires small { IsSmall (scene_in scene.now) }
     requires tracks { Tracks order.now (scene_in scene.now).sketch.feet }
-    ensures { OnOk result (out.new.items ≡ out.old.items ++ flat_map mark_text
+    ensures { OnOk result (out.new.items ≡ out.old.items ++ flat_map as_written
         (map (arrow_mark (scene_in scene.now)) (arrows (scene_in scene.now).sketch.feet (scene_in scene.now).done))) }
 {
     if scene.done.to < scene.done.from {

@@ -1,7 +1,7 @@
 //! The column of the witness for the first race.
 ghost use Rattle.std.specs.Prelude.{◌≡◌, ◌+◌, ◌-◌, ◌<◌, ◌≤◌, ◌^◌, ◌++◌, All, IfOk, OnOk, flat_map, decimal, length};
 ghost use Rattle.mr_clocks.specs.Tracked.{Tracks};
-ghost use Rattle.mr_svg.specs.Svg.{mark_text};
+ghost use Rattle.mr_picture.specs.Written.{as_written};
 ghost use Rattle.mr_picture.specs.Column.{column_line, column_marks, column_name, column_of, column_place, column_race};
 ghost use Rattle.mr_picture.specs.Column.{column_y, is_of_race, kept_mark, kept_marks, kept_number, kept_shape, kept_sign};
 ghost use Rattle.mr_picture.specs.Column.{kept_title, left_mark, left_marks, left_number, left_title, number_place, rows_marks};
@@ -10,10 +10,11 @@ ghost use Rattle.mr_picture.specs.Scene.{IsRace, IsSmall, IsStep, scene_in};
 use crate::grid::{column_x, count_below, row_y};
 use crate::scene::Scene;
 use crate::texts::{count_text, push, push_step_word};
+use crate::written::{Written, push_mark};
 use crate::{OutOfMemory, left_out, witness_steps};
 use mr_clocks::Analysis;
 use mr_event::{Pair, thread_at};
-use mr_svg::{Point, Shape, Sign, push_mark};
+use mr_svg::{Point, Shape, Sign};
 use std::alloc::Global;
 
 // A row of the column.
@@ -84,7 +85,7 @@ fn kept_shape(races: bool, at: Point) -> Shape
 
 // Appends the mark of a step of the witness, in a row.
 fn push_kept_mark(
-    out: &mut Vec<u8>,
+    out: &mut Vec<Written>,
     scene: &Scene<'_>,
     race: Pair,
     row: usize,
@@ -96,7 +97,7 @@ fn push_kept_mark(
     requires step { IsStep (scene_in scene.now) step }
     requires title { title.now ≡ kept_title step row }
     ensures { OnOk result (out.new.items
-        ≡ out.old.items ++ mark_text (kept_mark (scene_in scene.now) race row step)) }
+        ≡ out.old.items ++ as_written (kept_mark (scene_in scene.now) race row step)) }
 {
     let races = is_of_race(race, step);
     let at = column_place(scene, thread_at(scene.sketch.feet, step), row);
@@ -106,7 +107,7 @@ fn push_kept_mark(
 // Appends its number.
 fn push_kept_number(
     alloc: Global,
-    out: &mut Vec<u8>,
+    out: &mut Vec<Written>,
     scene: &Scene<'_>,
     row: usize,
     step: usize,
@@ -116,7 +117,7 @@ fn push_kept_number(
     requires row { row < 2 ^ 40 }
     requires title { title.now ≡ kept_title step row }
     ensures { OnOk result (out.new.items
-        ≡ out.old.items ++ mark_text (kept_number (scene_in scene.now) row step)) }
+        ≡ out.old.items ++ as_written (kept_number (scene_in scene.now) row step)) }
 {
     let count = count_text(alloc, step)?;
     let at = number_place(scene, row);
@@ -132,7 +133,7 @@ fn push_kept_number(
 // Appends the marks of a step of the witness, in a row.
 fn push_kept(
     alloc: Global,
-    out: &mut Vec<u8>,
+    out: &mut Vec<Written>,
     scene: &Scene<'_>,
     race: Pair,
     row: usize,
@@ -142,7 +143,7 @@ fn push_kept(
     requires row { row < 2 ^ 40 }
     requires step { IsStep (scene_in scene.now) step }
     ensures { OnOk result (out.new.items
-        ≡ out.old.items ++ flat_map mark_text (kept_marks (scene_in scene.now) race row step)) }
+        ≡ out.old.items ++ flat_map as_written (kept_marks (scene_in scene.now) race row step)) }
 {
     let title = kept_title(alloc, step, row)?;
     push_kept_mark(out, scene, race, row, step, title.as_slice())?;
@@ -161,7 +162,7 @@ fn left_title(alloc: Global, step: usize) -> Result<Vec<u8>, OutOfMemory>
 
 // Appends the mark of a step that it leaves out, in a row.
 fn push_left_mark(
-    out: &mut Vec<u8>,
+    out: &mut Vec<Written>,
     scene: &Scene<'_>,
     row: usize,
     step: usize,
@@ -172,7 +173,7 @@ fn push_left_mark(
     requires step { IsStep (scene_in scene.now) step }
     requires title { title.now ≡ left_title step }
     ensures { OnOk result (out.new.items
-        ≡ out.old.items ++ mark_text (left_mark (scene_in scene.now) row step)) }
+        ≡ out.old.items ++ as_written (left_mark (scene_in scene.now) row step)) }
 {
     let at = column_place(scene, thread_at(scene.sketch.feet, step), row);
     push_mark(out, Sign::LeftOut, Shape::Dot { at }, &[], title)
@@ -181,7 +182,7 @@ fn push_left_mark(
 // Appends its number.
 fn push_left_number(
     alloc: Global,
-    out: &mut Vec<u8>,
+    out: &mut Vec<Written>,
     scene: &Scene<'_>,
     row: usize,
     step: usize,
@@ -191,7 +192,7 @@ fn push_left_number(
     requires row { row < 2 ^ 40 }
     requires title { title.now ≡ left_title step }
     ensures { OnOk result (out.new.items
-        ≡ out.old.items ++ mark_text (left_number (scene_in scene.now) row step)) }
+        ≡ out.old.items ++ as_written (left_number (scene_in scene.now) row step)) }
 {
     let count = count_text(alloc, step)?;
     let at = number_place(scene, row);
@@ -207,7 +208,7 @@ fn push_left_number(
 // Appends the marks of a step that it leaves out, in a row.
 fn push_left(
     alloc: Global,
-    out: &mut Vec<u8>,
+    out: &mut Vec<Written>,
     scene: &Scene<'_>,
     row: usize,
     step: usize,
@@ -216,7 +217,7 @@ fn push_left(
     requires row { row < 2 ^ 40 }
     requires step { IsStep (scene_in scene.now) step }
     ensures { OnOk result (out.new.items
-        ≡ out.old.items ++ flat_map mark_text (left_marks (scene_in scene.now) row step)) }
+        ≡ out.old.items ++ flat_map as_written (left_marks (scene_in scene.now) row step)) }
 {
     let title = left_title(alloc, step)?;
     push_left_mark(out, scene, row, step, title.as_slice())?;
@@ -226,7 +227,7 @@ fn push_left(
 // Appends the marks of the steps of the witness.
 fn push_each_kept(
     alloc: Global,
-    out: &mut Vec<u8>,
+    out: &mut Vec<Written>,
     scene: &Scene<'_>,
     race: Pair,
     steps: &[usize],
@@ -235,7 +236,7 @@ fn push_each_kept(
     requires few { length steps.now < 2 ^ 40 }
     requires steps { All (IsStep (scene_in scene.now)) steps.now }
     ensures { OnOk result (out.new.items ≡ out.old.items
-        ++ flat_map mark_text (rows_marks (kept_marks (scene_in scene.now) race) 0 steps.now)) }
+        ++ flat_map as_written (rows_marks (kept_marks (scene_in scene.now) race) 0 steps.now)) }
 {
     let mut row = 0;
     for step in steps {
@@ -248,7 +249,7 @@ fn push_each_kept(
 // Appends the marks of the steps that it leaves out, from a row on.
 fn push_each_left(
     alloc: Global,
-    out: &mut Vec<u8>,
+    out: &mut Vec<Written>,
     scene: &Scene<'_>,
     from: usize,
     steps: &[usize],
@@ -257,7 +258,7 @@ fn push_each_left(
     requires few { from + length steps.now < 2 ^ 40 }
     requires steps { All (IsStep (scene_in scene.now)) steps.now }
     ensures { OnOk result (out.new.items ≡ out.old.items
-        ++ flat_map mark_text (rows_marks (left_marks (scene_in scene.now)) from steps.now)) }
+        ++ flat_map as_written (rows_marks (left_marks (scene_in scene.now)) from steps.now)) }
 {
     let mut row = from;
     for step in steps {
@@ -268,9 +269,9 @@ fn push_each_left(
 }
 
 // Appends the name of the column.
-fn push_column_name(out: &mut Vec<u8>, scene: &Scene<'_>) -> Result<(), OutOfMemory>
+fn push_column_name(out: &mut Vec<Written>, scene: &Scene<'_>) -> Result<(), OutOfMemory>
     requires { IsSmall (scene_in scene.now) }
-    ensures { OnOk result (out.new.items ≡ out.old.items ++ mark_text (column_name (scene_in scene.now))) }
+    ensures { OnOk result (out.new.items ≡ out.old.items ++ as_written (column_name (scene_in scene.now))) }
 {
     let at = Point {
         x: column_x(scene) + 12,
@@ -303,7 +304,7 @@ fn column_line(scene: &Scene<'_>, race: Pair, count: usize) -> Shape
 
 // Appends that the last two of so many steps race.
 fn push_column_race(
-    out: &mut Vec<u8>,
+    out: &mut Vec<Written>,
     scene: &Scene<'_>,
     race: Pair,
     count: usize,
@@ -312,7 +313,7 @@ fn push_column_race(
     requires race { IsRace (scene_in scene.now) race }
     requires count { count < 2 ^ 40 }
     ensures { OnOk result (out.new.items
-        ≡ out.old.items ++ mark_text (column_race (scene_in scene.now) race count)) }
+        ≡ out.old.items ++ as_written (column_race (scene_in scene.now) race count)) }
 {
     push_mark(
         out,
@@ -326,7 +327,7 @@ fn push_column_race(
 // Appends the column of a race.
 fn push_column_of(
     alloc: Global,
-    out: &mut Vec<u8>,
+    out: &mut Vec<Written>,
     scene: &Scene<'_>,
     race: Pair,
     kept: &[usize],
@@ -338,7 +339,7 @@ fn push_column_of(
     requires kept { All (IsStep (scene_in scene.now)) kept.now }
     requires left { All (IsStep (scene_in scene.now)) left.now }
     ensures { OnOk result (out.new.items ≡ out.old.items
-        ++ flat_map mark_text (column_of (scene_in scene.now) race kept.now left.now)) }
+        ++ flat_map as_written (column_of (scene_in scene.now) race kept.now left.now)) }
 {
     push_column_name(out, scene)?;
     push_column_race(out, scene, race, kept.len())?;
@@ -349,14 +350,14 @@ fn push_column_of(
 /// Appends the column, where the first listed race is drawn.
 pub(crate) fn push_column(
     alloc: Global,
-    out: &mut Vec<u8>,
+    out: &mut Vec<Written>,
     scene: &Scene<'_>,
     order: &Analysis,
 ) -> Result<(), OutOfMemory>
     requires small { IsSmall (scene_in scene.now) }
     requires tracks { Tracks order.now (scene_in scene.now).sketch.feet }
     ensures { OnOk result (out.new.items ≡ out.old.items
-        ++ flat_map mark_text (column_marks (scene_in scene.now) (scene_in scene.now).first)) }
+        ++ flat_map as_written (column_marks (scene_in scene.now) (scene_in scene.now).first)) }
 {
     let Some(race) = scene.first else {
         return Ok(());

@@ -2,10 +2,12 @@
 ghost use Rattle.std.specs.Prelude.{◌≡◌, ◌<◌, ◌^◌, ◌++◌, All, IfOk, OnOk, flat_map, length, slice_get};
 ghost use Rattle.mr_clocks.specs.Tracked.{Tracks};
 ghost use Rattle.mr_listing.specs.Seen.{seen};
-ghost use Rattle.mr_svg.specs.Svg.{mark_text};
+ghost use Rattle.mr_picture.specs.Written.{as_written};
 ghost use Rattle.mr_picture.specs.Drawn.{span_scene};
 ghost use Rattle.mr_picture.specs.Ends.{title_text};
-ghost use Rattle.mr_picture.specs.Picture.{marks, picture_text, round_marks, scene_text};
+ghost use Rattle.mr_picture.specs.Legend.{legend_signs};
+ghost use Rattle.mr_picture.specs.Marks.{drawn_marks, round_marks};
+ghost use Rattle.mr_picture.specs.Picture.{picture_text, scene_text};
 ghost use Rattle.mr_picture.specs.Scene.{IsSmall, race_in, scene_in, scene_of, sketch_in};
 
 use crate::arrows_of::push_arrows;
@@ -14,21 +16,22 @@ use crate::drawn::{drawn_steps, names_of, tail_of};
 use crate::ends::{push_heads, push_tail, title_text};
 use crate::grid::{height, width};
 use crate::lanes::push_lanes;
-use crate::legend::push_legend;
+use crate::legend::{legend_signs, push_legend};
 use crate::links::push_races;
 use crate::scene::{Drawn, Scene, Sketch, chosen, done_in, near_in, race_in, threads_of};
 use crate::steps::{push_rows, push_steps};
+use crate::written::{Written, push_texts};
 use crate::{OutOfMemory, Span};
 use mr_clocks::Analysis;
 use mr_event::Pair;
 use mr_listing::Shown;
-use mr_svg::{push_foot, push_head};
+use mr_svg::{Sign, push_foot, push_head};
 use std::alloc::Global;
 
-// Appends the marks behind the texts of steps: the witness's column, what is written above and below, and the legend.
+// Writes the marks behind the texts of steps: the witness's column, and what is written above and below.
 fn push_round(
     alloc: Global,
-    out: &mut Vec<u8>,
+    out: &mut Vec<Written>,
     scene: &Scene<'_>,
     order: &Analysis,
     title: &[u8],
@@ -36,18 +39,17 @@ fn push_round(
     requires small { IsSmall (scene_in scene.now) }
     requires tracks { Tracks order.now (scene_in scene.now).sketch.feet }
     requires title { title.now ≡ title_text (scene_in scene.now) }
-    ensures { OnOk result (out.new.items ≡ out.old.items ++ flat_map mark_text (round_marks (scene_in scene.now))) }
+    ensures { OnOk result (out.new.items ≡ out.old.items ++ flat_map as_written (round_marks (scene_in scene.now))) }
 {
     push_column(alloc, out, scene, order)?;
     push_heads(alloc, out, scene, title)?;
-    push_tail(alloc, out, scene)?;
-    push_legend(out, scene)
+    push_tail(alloc, out, scene)
 }
 
-// Appends all marks of a scene.
-fn push_marks(
+// Writes all marks of a scene but for the legend.
+fn push_drawn(
     alloc: Global,
-    out: &mut Vec<u8>,
+    out: &mut Vec<Written>,
     scene: &Scene<'_>,
     order: &Analysis,
     title: &[u8],
@@ -55,7 +57,7 @@ fn push_marks(
     requires small { IsSmall (scene_in scene.now) }
     requires tracks { Tracks order.now (scene_in scene.now).sketch.feet }
     requires title { title.now ≡ title_text (scene_in scene.now) }
-    ensures { OnOk result (out.new.items ≡ out.old.items ++ flat_map mark_text (marks (scene_in scene.now))) }
+    ensures { OnOk result (out.new.items ≡ out.old.items ++ flat_map as_written (drawn_marks (scene_in scene.now))) }
 {
     push_rows(alloc, out, scene)?;
     push_lanes(alloc, out, scene)?;
@@ -65,6 +67,30 @@ fn push_marks(
     push_round(alloc, out, scene, order, title)
 }
 
+// The document of a scene, of which these marks are drawn, with these rows of the legend.
+fn laid_text(
+    alloc: Global,
+    scene: &Scene<'_>,
+    title: &[u8],
+    drawn: Vec<Written>,
+    signs: &[Sign],
+) -> Result<Vec<u8>, OutOfMemory>
+    requires small { IsSmall (scene_in scene.now) }
+    requires title { title.now ≡ title_text (scene_in scene.now) }
+    requires drawn { drawn.items ≡ flat_map as_written (drawn_marks (scene_in scene.now)) }
+    requires signs { signs.now ≡ legend_signs (scene_in scene.now) }
+    ensures { IfOk result (λ text. text.items ≡ scene_text (scene_in scene.now)) }
+{
+    let mut marks = drawn;
+    push_legend(&mut marks, scene, signs)?;
+    let mut out = Vec::new(alloc);
+    let high = height(scene, signs.len() as u64);
+    push_head(&mut out, width(scene), high, title)?;
+    push_texts(&mut out, marks.as_slice())?;
+    push_foot(&mut out)?;
+    Ok(out)
+}
+
 // The document of a scene.
 fn scene_text(alloc: Global, scene: &Scene<'_>, order: &Analysis) -> Result<Vec<u8>, OutOfMemory>
     requires small { IsSmall (scene_in scene.now) }
@@ -72,11 +98,10 @@ fn scene_text(alloc: Global, scene: &Scene<'_>, order: &Analysis) -> Result<Vec<
     ensures { IfOk result (λ text. text.items ≡ scene_text (scene_in scene.now)) }
 {
     let title = title_text(alloc, scene)?;
-    let mut out = Vec::new(alloc);
-    push_head(&mut out, width(scene), height(scene), title.as_slice())?;
-    push_marks(alloc, &mut out, scene, order, title.as_slice())?;
-    push_foot(&mut out)?;
-    Ok(out)
+    let mut drawn = Vec::new(alloc);
+    push_drawn(alloc, &mut drawn, scene, order, title.as_slice())?;
+    let signs = legend_signs(alloc, drawn.as_slice())?;
+    laid_text(alloc, scene, title.as_slice(), drawn, signs.as_slice())
 }
 
 // The first listed race, if both of its steps are among these.

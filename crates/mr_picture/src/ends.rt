@@ -1,6 +1,6 @@
 //! What is written above the rows and below them.
 ghost use Rattle.std.specs.Prelude.{◌≡◌, ◌+◌, ◌-◌, ◌<◌, ◌≤◌, ◌^◌, ◌++◌, ◌∷◌, [], IfOk, OnOk, flat_map, length};
-ghost use Rattle.mr_svg.specs.Svg.{mark_text};
+ghost use Rattle.mr_picture.specs.Written.{as_written};
 ghost use Rattle.mr_svg.specs.declared.shape.Shape.TheVariants as Shape;
 ghost use Rattle.mr_picture.specs.Ends.{behind_line, counted, first_line, head_marks, line_length, line_marks};
 ghost use Rattle.mr_picture.specs.Ends.{left_text, line_room, names_mark, names_marks, part_mark, part_text, tail_mark, title_mark};
@@ -14,8 +14,9 @@ use crate::OutOfMemory;
 use crate::grid::{is_line_end, tail_count, tail_y, width};
 use crate::scene::Scene;
 use crate::texts::{cut_at, push};
+use crate::written::{Written, push_mark};
 use mr_labels::push_number;
-use mr_svg::{Point, Shape, Sign, push_mark};
+use mr_svg::{Point, Shape, Sign};
 use std::alloc::Global;
 
 // So many bytes of a line are drawn at most.
@@ -75,14 +76,14 @@ fn part_text(alloc: Global, scene: &Scene<'_>) -> Result<Vec<u8>, OutOfMemory>
 // Appends a text at the left, or so many bytes of it.
 fn push_line(
     alloc: Global,
-    out: &mut Vec<u8>,
+    out: &mut Vec<Written>,
     sign: Sign,
     y: u64,
     most: usize,
     text: &[u8],
 ) -> Result<(), OutOfMemory>
     ensures { OnOk result (out.new.items ≡ out.old.items
-        ++ mark_text (mark_of sign (Shape.Words (record { x = 16; y = y })) (cut_at most text.now) text.now)) }
+        ++ as_written (mark_of sign (Shape.Words (record { x = 16; y = y })) (cut_at most text.now) text.now)) }
 {
     let short = cut_at(alloc, most, text)?;
     let at = Point { x: 16, y };
@@ -92,19 +93,19 @@ fn push_line(
 // Appends how many steps and races there are.
 fn push_title(
     alloc: Global,
-    out: &mut Vec<u8>,
+    out: &mut Vec<Written>,
     scene: &Scene<'_>,
     title: &[u8],
 ) -> Result<(), OutOfMemory>
     requires { title.now ≡ title_text (scene_in scene.now) }
-    ensures { OnOk result (out.new.items ≡ out.old.items ++ mark_text (title_mark (scene_in scene.now))) }
+    ensures { OnOk result (out.new.items ≡ out.old.items ++ as_written (title_mark (scene_in scene.now))) }
 {
     push_line(alloc, out, Sign::Title, 30, LINE, title)
 }
 
 // Appends which steps are drawn, and what is left out.
-fn push_part(alloc: Global, out: &mut Vec<u8>, scene: &Scene<'_>) -> Result<(), OutOfMemory>
-    ensures { OnOk result (out.new.items ≡ out.old.items ++ mark_text (part_mark (scene_in scene.now))) }
+fn push_part(alloc: Global, out: &mut Vec<Written>, scene: &Scene<'_>) -> Result<(), OutOfMemory>
+    ensures { OnOk result (out.new.items ≡ out.old.items ++ as_written (part_mark (scene_in scene.now))) }
 {
     let part = part_text(alloc, scene)?;
     push_line(alloc, out, Sign::Note, 54, LINE, part.as_slice())
@@ -119,19 +120,23 @@ fn line_room(scene: &Scene<'_>) -> usize
 }
 
 // Appends whose the lanes are.
-fn push_names_mark(alloc: Global, out: &mut Vec<u8>, scene: &Scene<'_>) -> Result<(), OutOfMemory>
+fn push_names_mark(
+    alloc: Global,
+    out: &mut Vec<Written>,
+    scene: &Scene<'_>,
+) -> Result<(), OutOfMemory>
     requires { IsSmall (scene_in scene.now) }
-    ensures { OnOk result (out.new.items ≡ out.old.items ++ mark_text (names_mark (scene_in scene.now))) }
+    ensures { OnOk result (out.new.items ≡ out.old.items ++ as_written (names_mark (scene_in scene.now))) }
 {
     let room = line_room(scene);
     push_line(alloc, out, Sign::Note, 70, room, scene.sketch.names)
 }
 
 // Appends whose the lanes are, where it is known.
-fn push_names(alloc: Global, out: &mut Vec<u8>, scene: &Scene<'_>) -> Result<(), OutOfMemory>
+fn push_names(alloc: Global, out: &mut Vec<Written>, scene: &Scene<'_>) -> Result<(), OutOfMemory>
     requires { IsSmall (scene_in scene.now) }
     ensures { OnOk result (out.new.items
-        ≡ out.old.items ++ flat_map mark_text (names_marks (scene_in scene.now))) }
+        ≡ out.old.items ++ flat_map as_written (names_marks (scene_in scene.now))) }
 {
     if scene.sketch.names.is_empty() {
         Ok(())
@@ -143,13 +148,13 @@ fn push_names(alloc: Global, out: &mut Vec<u8>, scene: &Scene<'_>) -> Result<(),
 /// Appends what is written above the rows.
 pub(crate) fn push_heads(
     alloc: Global,
-    out: &mut Vec<u8>,
+    out: &mut Vec<Written>,
     scene: &Scene<'_>,
     title: &[u8],
 ) -> Result<(), OutOfMemory>
     requires small { IsSmall (scene_in scene.now) }
     requires title { title.now ≡ title_text (scene_in scene.now) }
-    ensures { OnOk result (out.new.items ≡ out.old.items ++ flat_map mark_text (head_marks (scene_in scene.now))) }
+    ensures { OnOk result (out.new.items ≡ out.old.items ++ flat_map as_written (head_marks (scene_in scene.now))) }
 {
     push_title(alloc, out, scene, title)?;
     push_part(alloc, out, scene)?;
@@ -185,7 +190,7 @@ fn behind_line(text: &[u8]) -> &[u8]
 // Appends a line of the text of the run's end.
 fn push_tail_line(
     alloc: Global,
-    out: &mut Vec<u8>,
+    out: &mut Vec<Written>,
     scene: &Scene<'_>,
     number: u64,
     line: &[u8],
@@ -193,7 +198,7 @@ fn push_tail_line(
     requires small { IsSmall (scene_in scene.now) }
     requires number { number ≤ 40 }
     ensures { OnOk result (out.new.items
-        ≡ out.old.items ++ mark_text (tail_mark (scene_in scene.now) number line.now)) }
+        ≡ out.old.items ++ as_written (tail_mark (scene_in scene.now) number line.now)) }
 {
     push_line(alloc, out, Sign::Text, tail_y(scene, number), LINE, line)
 }
@@ -201,11 +206,11 @@ fn push_tail_line(
 /// Appends the text of the run's end, line by line.
 pub(crate) fn push_tail(
     alloc: Global,
-    out: &mut Vec<u8>,
+    out: &mut Vec<Written>,
     scene: &Scene<'_>,
 ) -> Result<(), OutOfMemory>
     requires { IsSmall (scene_in scene.now) }
-    ensures { OnOk result (out.new.items ≡ out.old.items ++ flat_map mark_text
+    ensures { OnOk result (out.new.items ≡ out.old.items ++ flat_map as_written
         (line_marks (scene_in scene.now) 0 (tail_count (scene_in scene.now)) (scene_in scene.now).sketch.tail)) }
 {
     let count = tail_count(scene);

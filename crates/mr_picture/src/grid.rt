@@ -1,6 +1,6 @@
 //! Where marks stand.
-ghost use Rattle.std.specs.Prelude.{◌≡◌, ◌<◌, ◌^◌, ◌≤◌, count_by, length, nat_lt};
-ghost use Rattle.mr_picture.specs.Grid.{column_width, column_x, height, is_line_end, lane_x, legend_y, place_of, row_y};
+ghost use Rattle.std.specs.Prelude.{◌≡◌, ◌+◌, ◌<◌, ◌^◌, ◌≤◌, count_by, length, nat_lt};
+ghost use Rattle.mr_picture.specs.Grid.{column_width, column_x, is_line_end, lane_x, legend_y, place_of, row_y};
 ghost use Rattle.mr_picture.specs.Grid.{rows_end, tail_count, tail_y, text_x, width};
 ghost use Rattle.mr_picture.specs.Scene.{IsSmall, scene_in};
 
@@ -116,7 +116,7 @@ pub(crate) fn tail_y(scene: &Scene<'_>, number: u64) -> u64
     rows_end(scene) + 44 + 20 * number
 }
 
-/// A line of the legend.
+/// A row of the legend.
 pub(crate) fn legend_y(scene: &Scene<'_>, number: u64) -> u64
     requires small { IsSmall (scene_in scene.now) }
     requires number { number ≤ 9 }
@@ -125,10 +125,11 @@ pub(crate) fn legend_y(scene: &Scene<'_>, number: u64) -> u64
     tail_y(scene, tail_count(scene)) + 20 + 22 * number
 }
 
-/// How high the picture is.
-pub(crate) fn height(scene: &Scene<'_>) -> u64
-    requires { IsSmall (scene_in scene.now) }
-    ensures { result ≡ height (scene_in scene.now) }
+/// How high a picture is whose legend has so many rows.
+pub(crate) fn height(scene: &Scene<'_>, rows: u64) -> u64
+    requires small { IsSmall (scene_in scene.now) }
+    requires rows { rows ≤ 9 }
+    ensures { result ≡ legend_y (scene_in scene.now) rows + 16 }
 {
-    legend_y(scene, 9)
+    legend_y(scene, rows) + 16
 }

@@ -1,6 +1,6 @@
 //! The lanes of threads.
 ghost use Rattle.std.specs.Prelude.{◌≡◌, ◌<◌, ◌≤◌, ◌^◌, ◌++◌, All, IfOk, IfSome, OnOk, flat_map, option_copied, slice_get};
-ghost use Rattle.mr_svg.specs.Svg.{mark_text};
+ghost use Rattle.mr_picture.specs.Written.{as_written};
 ghost use Rattle.mr_picture.specs.Lanes.{ends, first_that, has_ended, is_thread, lane_end, lane_mark, lane_marks};
 ghost use Rattle.mr_picture.specs.Lanes.{lane_start, name_mark, row_or, short_name, starts, thread_word};
 ghost use Rattle.mr_picture.specs.Scene.{IsSmall, scene_in};
@@ -9,9 +9,10 @@ use crate::OutOfMemory;
 use crate::grid::{lane_x, row_y, rows_end};
 use crate::scene::{Drawn, Scene, foot_at};
 use crate::texts::push;
+use crate::written::{Written, push_mark};
 use mr_event::Footprint;
 use mr_labels::push_number;
-use mr_svg::{Point, Shape, Sign, push_mark};
+use mr_svg::{Point, Shape, Sign};
 use std::alloc::Global;
 
 // Whether the thread that was started is this one.
@@ -99,14 +100,14 @@ pub(crate) fn push_thread_word(out: &mut Vec<u8>, thread: u32) -> Result<(), Out
 
 // Appends the lane of a thread.
 fn push_lane(
-    out: &mut Vec<u8>,
+    out: &mut Vec<Written>,
     scene: &Scene<'_>,
     thread: u32,
     title: &[u8],
 ) -> Result<(), OutOfMemory>
     requires small { IsSmall (scene_in scene.now) }
     requires title { title.now ≡ thread_word thread }
-    ensures { OnOk result (out.new.items ≡ out.old.items ++ mark_text (lane_mark (scene_in scene.now) thread)) }
+    ensures { OnOk result (out.new.items ≡ out.old.items ++ as_written (lane_mark (scene_in scene.now) thread)) }
 {
     let x = lane_x(scene.threads, thread);
     let start = row_or(scene.span.from, 98, starting(scene.steps, thread));
@@ -134,7 +135,7 @@ fn short_name(alloc: Global, thread: u32) -> Result<Vec<u8>, OutOfMemory>
 
 // Appends the name of a thread, at this height.
 fn push_name(
-    out: &mut Vec<u8>,
+    out: &mut Vec<Written>,
     scene: &Scene<'_>,
     y: u64,
     thread: u32,
@@ -144,7 +145,7 @@ fn push_name(
     requires small { IsSmall (scene_in scene.now) }
     requires name { name.now ≡ short_name thread }
     requires title { title.now ≡ thread_word thread }
-    ensures { OnOk result (out.new.items ≡ out.old.items ++ mark_text (name_mark (scene_in scene.now) y thread)) }
+    ensures { OnOk result (out.new.items ≡ out.old.items ++ as_written (name_mark (scene_in scene.now) y thread)) }
 {
     let at = Point {
         x: lane_x(scene.threads, thread) - 8,
@@ -156,13 +157,13 @@ fn push_name(
 // Appends the marks of a lane.
 fn push_lane_marks(
     alloc: Global,
-    out: &mut Vec<u8>,
+    out: &mut Vec<Written>,
     scene: &Scene<'_>,
     thread: u32,
 ) -> Result<(), OutOfMemory>
     requires { IsSmall (scene_in scene.now) }
     ensures { OnOk result (out.new.items
-        ≡ out.old.items ++ flat_map mark_text (lane_marks (scene_in scene.now) thread)) }
+        ≡ out.old.items ++ flat_map as_written (lane_marks (scene_in scene.now) thread)) }
 {
     let title = thread_word(alloc, thread)?;
     let name = short_name(alloc, thread)?;
@@ -175,12 +176,12 @@ fn push_lane_marks(
 /// Appends the marks of each lane.
 pub(crate) fn push_lanes(
     alloc: Global,
-    out: &mut Vec<u8>,
+    out: &mut Vec<Written>,
     scene: &Scene<'_>,
 ) -> Result<(), OutOfMemory>
     requires { IsSmall (scene_in scene.now) }
     ensures { OnOk result (out.new.items ≡ out.old.items
-        ++ flat_map mark_text (flat_map (lane_marks (scene_in scene.now)) (scene_in scene.now).threads)) }
+        ++ flat_map as_written (flat_map (lane_marks (scene_in scene.now)) (scene_in scene.now).threads)) }
 {
     let threads = scene.threads;
     for thread in threads {

@@ -3,6 +3,7 @@ ghost use Rattle.std.specs.Prelude.{◌≡◌, ◌<◌, ◌≤◌, ◌^◌, ◌�
 ghost use Rattle.std.specs.List.{Contains};
 ghost use Rattle.mr_event.specs.declared.footprint.Pair.{Pair};
 ghost use Rattle.mr_rust_order.specs.Order.{HappensBefore};
+ghost use Rattle.mr_svg.specs.declared.shape.Sign.{Sign};
 ghost use Rattle.mr_svg.specs.declared.shape.Sign.TheVariants.{MachineOrder};
 ghost use Rattle.mr_picture.specs.declared.scene.Drawn.{Drawn};
 ghost use Rattle.mr_picture.specs.declared.span.Span.{Span};
@@ -12,8 +13,9 @@ ghost use Rattle.mr_picture.specs.Clear.{IsClearOf};
 ghost use Rattle.mr_labels.specs.declared.step.Stand.{Stand};
 ghost use Rattle.mr_labels.specs.declared.step.ToldStep.{ToldStep};
 ghost use Rattle.mr_picture.specs.Drawn.{StandsIn, asked_scene, name_of, names_of};
-ghost use Rattle.mr_picture.specs.Grid.{height, width};
+ghost use Rattle.mr_picture.specs.Grid.{width};
 ghost use Rattle.mr_picture.specs.Inside.{IsInside};
+ghost use Rattle.mr_picture.specs.Legend.{IsDrawn, height, legend_order, legend_signs};
 ghost use Rattle.mr_picture.specs.Picture.{marks};
 ghost use Rattle.mr_picture.specs.Links.{arrow_mark, race_mark};
 ghost use Rattle.mr_picture.specs.Scene.{Scene, Sketch, done_in, near_in, scene_of};
@@ -42,6 +44,11 @@ pub fn links_keep_clear()
         → (race : Pair) → Contains (races_in (done_in span (length s.feet)) (near_in span s.races)) race
         → ¬ step.number ≡ race.first → ¬ step.number ≡ race.second
         → IsClearOf (at_step (scene_of s span steps) step) (race_mark (scene_of s span steps) race).shape }
+{}
+
+/// A law: the legend has a row for each of its signs that a mark of the run has, and for no other one.
+pub fn legend_tells_what_is_drawn()
+    ensures { (s : Scene) (sign : Sign) → Contains (legend_signs s) sign ↔ (Contains legend_order sign × IsDrawn s sign) }
 {}
 
 /// A law: where a told step of a program's run started a thread, the names of the threads have its name, with the function

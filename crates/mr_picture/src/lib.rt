@@ -7,12 +7,14 @@
 //!   [`chosen`]: which steps a picture has. [`push_numbered`], [`push_ended`], [`push_woken`]: parts of what a step did.
 //!
 //! `specs/Picture.antt` says what is drawn: `Scene` which steps, `Grid` where marks stand, and `Lanes`, `Links`, `Steps`,
-//! `Column`, `Ends` and `Legend` which marks there are; `Drawn` and `Deeds` what is told of the steps of a program.
+//! `Column`, `Ends` and `Legend` which marks there are, all but the legend in `Marks`; `Drawn` and `Deeds` what is told of
+//! the steps of a program.
 //! Proved: the document is exactly that, and want of memory is the only error. By the laws of the arrows they are edges
 //! and lead wherever one step happens before another, and each is drawn by whether Rust's order has it too
 //! ([`arrows_tell_whose_they_are`]); the races are the listed ones both of whose steps are drawn; no text can become
 //! markup, by the law of `mr_svg`. [`marks_lie_inside`] is the law that each mark lies inside the picture, and
 //! [`links_keep_clear`] that no arrow and no line of a race comes near the mark of another step; by
+//! [`legend_tells_what_is_drawn`] the legend has a row for each of its signs that is drawn, and no other; by
 //! [`started_threads_are_named`] each thread that a told step started stands above the lanes with the function with which
 //! it began.
 //!
@@ -56,12 +58,14 @@ mod texts;
 mod way;
 mod way_texts;
 mod witness;
+mod written;
 
 pub use because::{Because, because_of, because_word};
 pub use deeds::{push_ended, push_numbered, push_woken};
 pub use drawing::{picture, sketched};
 pub use law::{
-    arrows_tell_whose_they_are, links_keep_clear, marks_lie_inside, started_threads_are_named,
+    arrows_tell_whose_they_are, legend_tells_what_is_drawn, links_keep_clear, marks_lie_inside,
+    started_threads_are_named,
 };
 pub use order::wakes_thread;
 pub use order_laws::{arrows_are_edges, paths_are_the_order, ways_are_the_order, witness_is_kept};

@@ -3,7 +3,7 @@ ghost use Rattle.std.specs.Prelude.{◌≡◌, ◌<◌, ◌≤◌, ◌^◌, ◌+
 ghost use Rattle.mr_event.specs.Order.{thread_at as thread_of};
 ghost use Rattle.mr_picture.specs.Span.{races_in};
 ghost use Rattle.mr_rust_order.specs.Tracked.{Tracks as RustTracks};
-ghost use Rattle.mr_svg.specs.Svg.{mark_text};
+ghost use Rattle.mr_picture.specs.Written.{as_written};
 ghost use Rattle.mr_picture.specs.Grid.{place_of};
 ghost use Rattle.mr_picture.specs.Links.{arrow_at, arrow_between, arrow_mark, arrow_reason, arrow_sign, arrow_title, beside, corner_of};
 ghost use Rattle.mr_picture.specs.Links.{foot_place, is_rusts, is_same_race, is_wake, race_between, race_mark, race_sign, race_title};
@@ -12,10 +12,11 @@ ghost use Rattle.mr_picture.specs.Scene.{IsRace, IsSmall, IsStep, scene_in};
 use crate::grid::place_of;
 use crate::scene::Scene;
 use crate::texts::{push, push_step_word};
+use crate::written::{Written, push_mark};
 use crate::{OutOfMemory, races_in, wakes_thread};
 use mr_event::{Footprint, Pair, thread_at};
 use mr_rust_order::Analysis as RustOrder;
-use mr_svg::{Corner, Point, Shape, Sign, push_mark};
+use mr_svg::{Corner, Point, Shape, Sign};
 use std::alloc::Global;
 
 // So far from one number, on the side of another one.
@@ -157,7 +158,7 @@ fn is_rusts(run: &[Footprint], rust: &RustOrder, arrow: Pair) -> Result<bool, Ou
 /// Appends an arrow.
 pub(crate) fn push_arrow(
     alloc: Global,
-    out: &mut Vec<u8>,
+    out: &mut Vec<Written>,
     scene: &Scene<'_>,
     rust: &RustOrder,
     arrow: Pair,
@@ -165,7 +166,7 @@ pub(crate) fn push_arrow(
     requires small { IsSmall (scene_in scene.now) }
     requires arrow { IsRace (scene_in scene.now) arrow }
     requires rust { RustTracks (scene_in scene.now).sketch.feet arrow.second rust.now }
-    ensures { OnOk result (out.new.items ≡ out.old.items ++ mark_text (arrow_mark (scene_in scene.now) arrow)) }
+    ensures { OnOk result (out.new.items ≡ out.old.items ++ as_written (arrow_mark (scene_in scene.now) arrow)) }
 {
     let woken = wakes_thread(scene.sketch.feet, arrow.first, arrow.second);
     let rusts = is_rusts(scene.sketch.feet, rust, arrow)?;
@@ -209,13 +210,13 @@ fn race_title(alloc: Global, race: Pair) -> Result<Vec<u8>, OutOfMemory>
 // Appends the line of a race.
 fn push_race(
     alloc: Global,
-    out: &mut Vec<u8>,
+    out: &mut Vec<Written>,
     scene: &Scene<'_>,
     race: Pair,
 ) -> Result<(), OutOfMemory>
     requires small { IsSmall (scene_in scene.now) }
     requires race { IsRace (scene_in scene.now) race }
-    ensures { OnOk result (out.new.items ≡ out.old.items ++ mark_text (race_mark (scene_in scene.now) race)) }
+    ensures { OnOk result (out.new.items ≡ out.old.items ++ as_written (race_mark (scene_in scene.now) race)) }
 {
     let shape = race_between(
         foot_place(scene, race.first),
@@ -229,14 +230,14 @@ fn push_race(
 // Appends the line of each of these races.
 fn push_each_race(
     alloc: Global,
-    out: &mut Vec<u8>,
+    out: &mut Vec<Written>,
     scene: &Scene<'_>,
     races: &[Pair],
 ) -> Result<(), OutOfMemory>
     requires small { IsSmall (scene_in scene.now) }
     requires within { All (IsRace (scene_in scene.now)) races.now }
     ensures { OnOk result (out.new.items
-        ≡ out.old.items ++ flat_map mark_text (map (race_mark (scene_in scene.now)) races.now)) }
+        ≡ out.old.items ++ flat_map as_written (map (race_mark (scene_in scene.now)) races.now)) }
 {
     for race in races {
         push_race(alloc, out, scene, *race)?;
@@ -247,11 +248,11 @@ fn push_each_race(
 /// Appends the lines of the races both of whose steps are drawn.
 pub(crate) fn push_races(
     alloc: Global,
-    out: &mut Vec<u8>,
+    out: &mut Vec<Written>,
     scene: &Scene<'_>,
 ) -> Result<(), OutOfMemory>
     requires { IsSmall (scene_in scene.now) }
-    ensures { OnOk result (out.new.items ≡ out.old.items ++ flat_map mark_text
+    ensures { OnOk result (out.new.items ≡ out.old.items ++ flat_map as_written
         (map (race_mark (scene_in scene.now)) (races_in (scene_in scene.now).done (scene_in scene.now).near))) }
 {
     let races = races_in(alloc, scene.done, scene.near)?;

@@ -2,7 +2,7 @@
 ghost use Rattle.std.specs.Prelude.{◌≡◌, ◌+◌, ◌-◌, ◌<◌, ◌≤◌, ◌^◌, ◌++◌, ◌∷◌, [], IfOk, OnOk, flat_map, decimal, length};
 ghost use Rattle.std.specs.List.{list_any};
 ghost use Rattle.mr_picture.specs.Span.{steps_in};
-ghost use Rattle.mr_svg.specs.Svg.{mark_text};
+ghost use Rattle.mr_picture.specs.Written.{as_written};
 ghost use Rattle.mr_picture.specs.Scene.{IsSmall, scene_in};
 ghost use Rattle.mr_picture.specs.Steps.{at_step, did_line, did_mark, did_text, is_step_of, joined, number_mark, part_of};
 ghost use Rattle.mr_picture.specs.Steps.{part_shape, part_sign, row_mark, row_marks, stand_mark, step_mark, step_marks};
@@ -15,8 +15,9 @@ use crate::lanes::push_thread_word;
 use crate::partners::push_partners;
 use crate::scene::{Drawn, Scene, holds_race};
 use crate::texts::{behind_two, count_text, cut, push, push_step_word};
+use crate::written::{Written, push_mark};
 use mr_event::Pair;
-use mr_svg::{Point, Shape, Sign, push_mark};
+use mr_svg::{Point, Shape, Sign};
 use std::alloc::Global;
 
 /// What a step is in a picture.
@@ -66,7 +67,7 @@ fn part_sign(part: Part) -> Sign
     }
 }
 
-fn part_shape(part: Part, at: Point) -> Shape
+pub(crate) fn part_shape(part: Part, at: Point) -> Shape
     ensures { result ≡ part_shape part at }
 {
     match part {
@@ -146,13 +147,13 @@ fn did_line(
 // Appends the background of a row.
 fn push_row_mark(
     alloc: Global,
-    out: &mut Vec<u8>,
+    out: &mut Vec<Written>,
     scene: &Scene<'_>,
     step: usize,
 ) -> Result<(), OutOfMemory>
     requires small { IsSmall (scene_in scene.now) }
     requires few { step < 2 ^ 32 }
-    ensures { OnOk result (out.new.items ≡ out.old.items ++ mark_text (row_mark (scene_in scene.now) step)) }
+    ensures { OnOk result (out.new.items ≡ out.old.items ++ as_written (row_mark (scene_in scene.now) step)) }
 {
     let mut title = Vec::new(alloc);
     push_step_word(&mut title, step)?;
@@ -170,14 +171,14 @@ fn push_row_mark(
 // Appends the background of a row, if it is one of those that have it.
 fn push_row(
     alloc: Global,
-    out: &mut Vec<u8>,
+    out: &mut Vec<Written>,
     scene: &Scene<'_>,
     step: usize,
 ) -> Result<(), OutOfMemory>
     requires small { IsSmall (scene_in scene.now) }
     requires few { step < 2 ^ 32 }
     ensures { OnOk result (out.new.items
-        ≡ out.old.items ++ flat_map mark_text (row_marks (scene_in scene.now) step)) }
+        ≡ out.old.items ++ flat_map as_written (row_marks (scene_in scene.now) step)) }
 {
     if step.saturating_sub(scene.span.from) % 2 == 0 {
         push_row_mark(alloc, out, scene, step)
@@ -189,12 +190,12 @@ fn push_row(
 /// Appends the backgrounds of the rows.
 pub(crate) fn push_rows(
     alloc: Global,
-    out: &mut Vec<u8>,
+    out: &mut Vec<Written>,
     scene: &Scene<'_>,
 ) -> Result<(), OutOfMemory>
     requires { IsSmall (scene_in scene.now) }
     ensures { OnOk result (out.new.items ≡ out.old.items
-        ++ flat_map mark_text (flat_map (row_marks (scene_in scene.now)) (steps_in (scene_in scene.now).span))) }
+        ++ flat_map as_written (flat_map (row_marks (scene_in scene.now)) (steps_in (scene_in scene.now).span))) }
 {
     for step in scene.span.from..scene.span.to {
         push_row(alloc, out, scene, step)?;
@@ -213,7 +214,7 @@ fn at_step(scene: &Scene<'_>, step: &Drawn) -> Point
 
 // Appends the mark of a step in its lane.
 fn push_step_mark(
-    out: &mut Vec<u8>,
+    out: &mut Vec<Written>,
     scene: &Scene<'_>,
     step: &Drawn,
     title: &[u8],
@@ -221,7 +222,7 @@ fn push_step_mark(
     requires small { IsSmall (scene_in scene.now) }
     requires few { step.now.number < 2 ^ 32 }
     requires title { title.now ≡ whole_text (scene_in scene.now) step.now }
-    ensures { OnOk result (out.new.items ≡ out.old.items ++ mark_text (step_mark (scene_in scene.now) step.now)) }
+    ensures { OnOk result (out.new.items ≡ out.old.items ++ as_written (step_mark (scene_in scene.now) step.now)) }
 {
     let part = part_of(scene, step.number);
     let shape = part_shape(part, at_step(scene, step));
@@ -231,7 +232,7 @@ fn push_step_mark(
 // Appends the number of a step.
 fn push_number_mark(
     alloc: Global,
-    out: &mut Vec<u8>,
+    out: &mut Vec<Written>,
     scene: &Scene<'_>,
     step: &Drawn,
     title: &[u8],
@@ -239,7 +240,7 @@ fn push_number_mark(
     requires small { IsSmall (scene_in scene.now) }
     requires few { step.now.number < 2 ^ 32 }
     requires title { title.now ≡ whole_text (scene_in scene.now) step.now }
-    ensures { OnOk result (out.new.items ≡ out.old.items ++ mark_text (number_mark (scene_in scene.now) step.now)) }
+    ensures { OnOk result (out.new.items ≡ out.old.items ++ as_written (number_mark (scene_in scene.now) step.now)) }
 {
     let count = count_text(alloc, step.number)?;
     let at = Point {
@@ -258,7 +259,7 @@ fn push_number_mark(
 // Appends where the thread of a step stood, and the statement.
 fn push_stand_mark(
     alloc: Global,
-    out: &mut Vec<u8>,
+    out: &mut Vec<Written>,
     scene: &Scene<'_>,
     step: &Drawn,
     title: &[u8],
@@ -266,7 +267,7 @@ fn push_stand_mark(
     requires small { IsSmall (scene_in scene.now) }
     requires few { step.now.number < 2 ^ 32 }
     requires title { title.now ≡ whole_text (scene_in scene.now) step.now }
-    ensures { OnOk result (out.new.items ≡ out.old.items ++ mark_text (stand_mark (scene_in scene.now) step.now)) }
+    ensures { OnOk result (out.new.items ≡ out.old.items ++ as_written (stand_mark (scene_in scene.now) step.now)) }
 {
     let short = cut(alloc, step.stand.as_slice())?;
     let at = Point {
@@ -285,7 +286,7 @@ fn push_stand_mark(
 // Appends with which steps a step races, and what it did.
 fn push_did_mark(
     alloc: Global,
-    out: &mut Vec<u8>,
+    out: &mut Vec<Written>,
     scene: &Scene<'_>,
     step: &Drawn,
     did: &[u8],
@@ -295,7 +296,7 @@ fn push_did_mark(
     requires few { step.now.number < 2 ^ 32 }
     requires did { did.now ≡ did_text (scene_in scene.now) step.now }
     requires title { title.now ≡ whole_text (scene_in scene.now) step.now }
-    ensures { OnOk result (out.new.items ≡ out.old.items ++ mark_text (did_mark (scene_in scene.now) step.now)) }
+    ensures { OnOk result (out.new.items ≡ out.old.items ++ as_written (did_mark (scene_in scene.now) step.now)) }
 {
     let line = did_line(alloc, scene, step, did)?;
     let at = Point {
@@ -308,7 +309,7 @@ fn push_did_mark(
 // Appends the marks of a step, of which this is told.
 fn push_told(
     alloc: Global,
-    out: &mut Vec<u8>,
+    out: &mut Vec<Written>,
     scene: &Scene<'_>,
     step: &Drawn,
     did: &[u8],
@@ -319,7 +320,7 @@ fn push_told(
     requires did { did.now ≡ did_text (scene_in scene.now) step.now }
     requires title { title.now ≡ whole_text (scene_in scene.now) step.now }
     ensures { OnOk result (out.new.items
-        ≡ out.old.items ++ flat_map mark_text (step_marks (scene_in scene.now) step.now)) }
+        ≡ out.old.items ++ flat_map as_written (step_marks (scene_in scene.now) step.now)) }
 {
     push_step_mark(out, scene, step, title)?;
     push_number_mark(alloc, out, scene, step, title)?;
@@ -330,14 +331,14 @@ fn push_told(
 // Appends the marks of a step.
 fn push_step(
     alloc: Global,
-    out: &mut Vec<u8>,
+    out: &mut Vec<Written>,
     scene: &Scene<'_>,
     step: &Drawn,
 ) -> Result<(), OutOfMemory>
     requires small { IsSmall (scene_in scene.now) }
     requires few { step.now.number < 2 ^ 32 }
     ensures { OnOk result (out.new.items
-        ≡ out.old.items ++ flat_map mark_text (step_marks (scene_in scene.now) step.now)) }
+        ≡ out.old.items ++ flat_map as_written (step_marks (scene_in scene.now) step.now)) }
 {
     let did = did_text(alloc, scene, step)?;
     let title = whole_text(alloc, scene, step, did.as_slice())?;
@@ -347,12 +348,12 @@ fn push_step(
 /// Appends the marks of each step.
 pub(crate) fn push_steps(
     alloc: Global,
-    out: &mut Vec<u8>,
+    out: &mut Vec<Written>,
     scene: &Scene<'_>,
 ) -> Result<(), OutOfMemory>
     requires { IsSmall (scene_in scene.now) }
     ensures { OnOk result (out.new.items ≡ out.old.items
-        ++ flat_map mark_text (flat_map (step_marks (scene_in scene.now)) (scene_in scene.now).steps)) }
+        ++ flat_map as_written (flat_map (step_marks (scene_in scene.now)) (scene_in scene.now).steps)) }
 {
     let steps = scene.steps;
     for step in steps {

@@ -1,4 +1,4 @@
-use Rattle.mr_picture.proofs.Common.{◌≡◌, ◌++◌, ◌-◌, ◌≤◌, flat_map, map, range_with_len, Tracks, mark_text, arrows_to, arrow_mark, scene_in}
+use Rattle.mr_picture.proofs.Common.{◌≡◌, ◌++◌, ◌-◌, ◌≤◌, flat_map, map, range_with_len, Tracks, as_written, arrows_to, arrow_mark, scene_in}
 use Rattle.mr_picture.proofs.arrows_of.push_each_arrow.Given as goal
 
 -- the arrows to the steps before this one are drawn, and Rust's order of these steps is known
@@ -11,6 +11,6 @@ invariant-loop-second l =
       rust : Tracks s.sketch.feet l.second l.rust;
       drawn :
           l.out.items
-          ≡ l.fn.out.items ++ flat_map mark_text
+          ≡ l.fn.out.items ++ flat_map as_written
           (map (arrow_mark s) (flat_map (arrows_to s.sketch.feet s.done.from) (range_with_len s.done.from (l.second - s.done.from))));
     }

@@ -1,4 +1,4 @@
-use Rattle.mr_picture.proofs.Common.{◌∷◌, [], mark_text, scene_in, length, column_name, column_race, kept_marks, left_marks, rows_marks}
+use Rattle.mr_picture.proofs.Common.{◌∷◌, [], as_written, scene_in, length, column_name, column_race, kept_marks, left_marks, rows_marks}
 use Rattle.mr_picture.proofs.Marks.{begun, last_marks, more_mark, more_marks}
 use Rattle.mr_picture.proofs.column.push_column_of.Goals as goal
 
@@ -10,11 +10,11 @@ returns c =
     let name = column_name s in
     let race = column_race s c.args.race (length kept) in
     let rows = rows_marks (kept_marks s c.args.race) 0 kept in
-    last_marks mark_text c.push_each_left.result old _ _ (name ∷ race ∷ rows)
+    last_marks as_written c.push_each_left.result old _ _ (name ∷ race ∷ rows)
     (rows_marks (left_marks s) (length kept) c.args.left.now)
-    (more_marks mark_text old _ _ (name ∷ race ∷ []) rows
-    (more_mark mark_text old _ _ (name ∷ []) race
-    (more_mark mark_text old old _ [] name (begun mark_text old) c.in_ok-push_column_name.ensures)
+    (more_marks as_written old _ _ (name ∷ race ∷ []) rows
+    (more_mark as_written old _ _ (name ∷ []) race
+    (more_mark as_written old old _ [] name (begun as_written old) c.in_ok-push_column_name.ensures)
     c.in_ok-push_column_race.ensures)
     c.in_ok-push_each_kept.ensures)
     c.push_each_left.ensures

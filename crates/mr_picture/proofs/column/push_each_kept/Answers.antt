@@ -1,4 +1,4 @@
-use Rattle.mr_picture.proofs.Common.{ℕ, ◌++◌, List, ◌∙◌, ap, arith, sym, drop_all, flat_map, mark_text, kept_marks, rows_marks, scene_in}
+use Rattle.mr_picture.proofs.Common.{ℕ, ◌++◌, List, ◌∙◌, ap, arith, sym, drop_all, flat_map, as_written, kept_marks, rows_marks, scene_in}
 use Rattle.mr_picture.proofs.RowLaws.{no_rows, row_taken}
 use Rattle.mr_picture.proofs.column.push_each_kept.Goals as goal
 
@@ -18,7 +18,7 @@ returns c =
     let marks = kept_marks (scene_in c.args.scene.now) c.args.race in
     let out = c.loop-step.out.items in
     let row = c.loop-step.row in
-    sym (ap (λ (steps : List ℕ). out ++ flat_map mark_text (rows_marks marks row steps))
+    sym (ap (λ (steps : List ℕ). out ++ flat_map as_written (rows_marks marks row steps))
     (drop_all c.loop-step.step-index c.args.steps.now c.loop-step-test.false)
     ∙ no_rows marks out row)
     ∙ c.loop-step.invariant.rest

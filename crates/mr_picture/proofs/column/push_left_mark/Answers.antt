@@ -1,4 +1,4 @@
-use Rattle.mr_picture.proofs.Common.{◌≡◌, ℕ, List, [], ◌++◌, ◌∙◌, ap, subst, OnOk, Point, Dot, mark_text, column_place, left_title, scene_in, mark_of}
+use Rattle.mr_picture.proofs.Common.{◌≡◌, ℕ, List, [], ◌++◌, ◌∙◌, ap, subst, OnOk, Point, Dot, as_written, column_place, left_title, scene_in, mark_of}
 use Rattle.mr_svg.specs.declared.shape.Sign.TheVariants as sign
 use Rattle.mr_picture.proofs.column.push_left_mark.Goals as goal
 
@@ -9,7 +9,7 @@ returns c =
     let at = c.column_place-at.ensures
     ∙ ap (λ (thread : ℕ). column_place (scene_in c.args.scene.now) thread c.args.row) c.thread_at.ensures in
     subst (λ (p : Point). OnOk c.push_mark.result
-    (new ≡ old ++ mark_text (mark_of sign.LeftOut (Dot p) [] (left_title c.args.step)))) at
+    (new ≡ old ++ as_written (mark_of sign.LeftOut (Dot p) [] (left_title c.args.step)))) at
     (subst (λ (title : List ℕ). OnOk c.push_mark.result
-    (new ≡ old ++ mark_text (mark_of sign.LeftOut (Dot c.column_place-at.result) [] title))) c.requires.title
+    (new ≡ old ++ as_written (mark_of sign.LeftOut (Dot c.column_place-at.result) [] title))) c.requires.title
     c.push_mark.ensures)

@@ -1,4 +1,4 @@
-use Rattle.mr_picture.proofs.Common.{◌≡◌, ℕ, ◌∷◌, [], ◌++◌, ap, subst, mark_text, lane_mark, name_mark, rows_end, ◌+◌, OnOk, scene_in}
+use Rattle.mr_picture.proofs.Common.{◌≡◌, ℕ, ◌∷◌, [], ◌++◌, ap, subst, as_written, lane_mark, name_mark, rows_end, ◌+◌, OnOk, scene_in}
 use Rattle.mr_picture.proofs.Marks.{begun, last_mark, more_mark}
 use Rattle.mr_picture.proofs.lanes.push_lane_marks.Goals as goal
 
@@ -8,10 +8,10 @@ returns c =
     let old = c.args.out.now.items in
     let lane = lane_mark s c.args.thread in
     let above = name_mark s 86 c.args.thread in
-    last_mark mark_text c.push_name-2.result old _ _ (lane ∷ above ∷ []) (name_mark s (rows_end s + 18) c.args.thread)
-    (more_mark mark_text old _ _ (lane ∷ []) above
-    (more_mark mark_text old old _ [] lane (begun mark_text old) c.in_ok-push_lane.ensures)
+    last_mark as_written c.push_name-2.result old _ _ (lane ∷ above ∷ []) (name_mark s (rows_end s + 18) c.args.thread)
+    (more_mark as_written old _ _ (lane ∷ []) above
+    (more_mark as_written old old _ [] lane (begun as_written old) c.in_ok-push_lane.ensures)
     c.in_ok-push_name.ensures)
     (subst (λ (y : ℕ). OnOk c.push_name-2.result
-    (c.push_name-2.new.out.items ≡ c.push_name.new.out.items ++ mark_text (name_mark s y c.args.thread)))
+    (c.push_name-2.new.out.items ≡ c.push_name.new.out.items ++ as_written (name_mark s y c.args.thread)))
     (ap (λ n. n + 18) c.rows_end-below.ensures) c.push_name-2.ensures)
