@@ -18,6 +18,7 @@ use Rattle.mr_picture.specs.Legend.{has_sign, height, is_arrow, is_race, left_en
 use Rattle.mr_picture.specs.Legend.{sign_text, step_entry}
 unfoldable use Rattle.mr_picture.specs.Legend.{legend_signs}
 use Rattle.mr_picture.specs.Drawn.{asked_scene, drawn_of, is_drawn}
+use Rattle.mr_listing.specs.declared.held.StepValues.{StepValues}
 use Rattle.mr_picture.specs.Picture.{marks}
 use Rattle.mr_picture.specs.Scene.{begin_at, chosen, clipped}
 use Rattle.mr_picture.specs.Steps.{did_line, part_of, part_shape, row_mark}
@@ -60,10 +61,10 @@ race_held done (Some race) = by (holds_race done race) refl
     by true e = e
     by false e = tt
 
-pub steps_are : (s : Seen) (span : Span) (steps : List ToldStep)
-    → All (λ d. (span.from ≤ d.number) × (d.number < span.to)) (drawn_steps s span steps)
-steps_are s span steps =
-    All-map (λ d. (span.from ≤ d.number) × (d.number < span.to)) (drawn_of s) (filter (is_drawn span) steps)
+pub steps_are : (s : Seen) (values : List StepValues) (span : Span) (steps : List ToldStep)
+    → All (λ d. (span.from ≤ d.number) × (d.number < span.to)) (drawn_steps s values span steps)
+steps_are s values span steps =
+    All-map (λ d. (span.from ≤ d.number) × (d.number < span.to)) (drawn_of s values) (filter (is_drawn span) steps)
     (All-weaker (λ t. is_drawn span t ≡ true) (λ t. (span.from ≤ t.number) × (t.number < span.to))
     (λ t e. in_part span t.number e) (filter (is_drawn span) steps) (filter_passes (is_drawn span) steps))
 
@@ -580,9 +581,10 @@ pub marks_inside : (s : Sketch) (span : Span) (steps : List Drawn) → span.to �
 marks_inside s span steps few within = all_in (scene_of s span steps) (laid_of s span steps few within)
 
 -- and of the run of a program
-pub asked_inside : (s : Seen) (asked : Option Span) → s.count ≤ 2 ^ 22
-    → All (IsIn (asked_scene s asked)) (marks (asked_scene s asked))
-asked_inside s asked few =
+pub asked_inside : (s : Seen) (values : List StepValues) (asked : Option Span) → s.count ≤ 2 ^ 22
+    → All (IsIn (asked_scene s values asked)) (marks (asked_scene s values asked))
+asked_inside s values asked few =
     let span = chosen s.count s.races asked in
     let to = chosen_to s.count s.races asked in
-    marks_inside (sketch_of s) span (drawn_steps s span s.steps) (omega (arith, to, few)) (steps_are s span s.steps)
+    marks_inside (sketch_of s) span (drawn_steps s values span s.steps) (omega (arith, to, few))
+    (steps_are s values span s.steps)

@@ -4,6 +4,7 @@ use Rattle.std.proofs.lemmas.Option.{IfSome_then}
 use Rattle.mr_picture.proofs.Counts.{numbers_few}
 use Rattle.mr_picture.proofs.InsideLaws.{race_held, steps_are}
 use Rattle.mr_picture.proofs.Room.{in_part}
+use Rattle.mr_listing.specs.declared.held.StepValues.{StepValues}
 
 pub small_of : (s : Sketch) (span : Span) (steps : List Drawn) → span.to < 2 ^ 32 → length s.feet < 2 ^ 32
     → All (λ d. d.number < 2 ^ 32) steps → IsSmall (scene_of s span steps)
@@ -26,8 +27,8 @@ small_of s span steps to feet within =
     }
 
 -- the numbers of the drawn steps of a program's run are small
-pub drawn_small : (s : Seen) (span : Span) → span.to < 2 ^ 32
-    → All (λ d. d.number < 2 ^ 32) (drawn_steps s span s.steps)
-drawn_small s span to =
+pub drawn_small : (s : Seen) (values : List StepValues) (span : Span) → span.to < 2 ^ 32
+    → All (λ d. d.number < 2 ^ 32) (drawn_steps s values span s.steps)
+drawn_small s values span to =
     All-weaker (λ d. (span.from ≤ d.number) × (d.number < span.to)) (λ d. d.number < 2 ^ 32)
-    (λ d is. omega (arith, is.1, to)) (drawn_steps s span s.steps) (steps_are s span s.steps)
+    (λ d is. omega (arith, is.1, to)) (drawn_steps s values span s.steps) (steps_are s values span s.steps)

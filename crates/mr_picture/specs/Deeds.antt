@@ -1,6 +1,7 @@
 -- What a step of a program's run did, as it is told beside it: each part behind a line feed.
 use Rattle.std.specs.Prelude.{ℕ, Bool, nat_lt, if◌then◌else◌, List, [], ◌++◌, flat_map, codes, decimal, length}
 use Rattle.std.specs.Prelude.{slice_range, Option, None, Some, slice_get}
+use Rattle.std.specs.List.{range_with_len}
 use Rattle.mr_base.specs.declared.access.Access.{Access}
 use Rattle.mr_base.specs.declared.thread.Event.{Event}
 use Rattle.mr_base.specs.declared.thread.Event.TheVariants as event
@@ -10,8 +11,11 @@ use Rattle.mr_labels.specs.declared.step.Stand.{Stand}
 use Rattle.mr_labels.specs.declared.step.ToldStep.{ToldStep}
 use Rattle.mr_labels.specs.Table.{found_at}
 use Rattle.mr_labels.specs.Words.{function_word}
-use Rattle.mr_listing.specs.Accesses.{access_word, bytes_text, reached_text}
+use Rattle.mr_listing.specs.Accesses.{access_word, bytes_text, reached_text, value_text}
 use Rattle.mr_listing.specs.Events.{acquire_text, join_text, release_text}
+use Rattle.mr_listing.specs.Held.{held_for}
+use Rattle.mr_listing.specs.declared.held.Held.{Held}
+use Rattle.mr_listing.specs.declared.held.StepValues.{StepValues}
 use Rattle.mr_listing.specs.Seen.{Seen}
 use Rattle.mr_picture.specs.Texts.{cut_at}
 
@@ -57,23 +61,34 @@ wake_deed thread = numbered (codes "wakes thread ") thread
 
 -- ---- accesses
 
--- whether it loads or stores, the name of what it reaches, and how many bytes it has
-abbrev pub access_deed : Seen → Option Stand → Access → List ℕ
-access_deed s here a =
-    codes "\n" ++ access_word a ++ reached_text s.program here a.addr (found_at a.addr s.rows) ++ codes ", "
-    ++ bytes_text a.len
+-- whether it loads or stores, the name of what it reaches, what it loaded or stored, and how many bytes it has
+abbrev pub access_deed : Seen → Option Stand → Held → Access → List ℕ
+access_deed s here h a =
+    codes "\n" ++ access_word a ++ reached_text s.program here a.addr (found_at a.addr s.rows)
+    ++ value_text s here h ++ codes ", " ++ bytes_text a.len
+
+-- the same of the access at a position of a step with these values, where there is one
+abbrev pub deed_of : Seen → Option Stand → Option StepValues → ℕ → Option Access → List ℕ
+deed_of s here v at None = []
+deed_of s here v at (Some a) = access_deed s here (held_for v at a) a
+
+abbrev pub deed_at : Seen → Option Stand → Option StepValues → List Access → ℕ → List ℕ
+deed_at s here v accesses at = deed_of s here v at (slice_get accesses at)
+
+abbrev pub access_deeds : Seen → Option Stand → Option StepValues → List Access → List ℕ
+access_deeds s here v accesses = flat_map (deed_at s here v accesses) (range_with_len 0 (length accesses))
 
 -- ---- all
 
 -- what its footprint tells; nothing of a step that did not complete
-abbrev pub foot_deeds : Seen → ToldStep → Option Footprint → List ℕ
-foot_deeds s told None = []
-foot_deeds s told (Some foot) =
+abbrev pub foot_deeds : Seen → Option StepValues → ToldStep → Option Footprint → List ℕ
+foot_deeds s v told None = []
+foot_deeds s v told (Some foot) =
     event_deed s told foot.event foot.woken ++ end_deed foot.ended ++ flat_map wake_deed foot.woken
-    ++ flat_map (access_deed s told.before) foot.accesses
+    ++ access_deeds s told.before v foot.accesses
 
--- WHAT A STEP DID: its prints, what it did to locks and threads, and its accesses
-abbrev pub deeds : Seen → ToldStep → List ℕ
-deeds s told =
+-- WHAT A STEP DID that has these values: its prints, what it did to locks and threads, and its accesses
+abbrev pub deeds : Seen → Option StepValues → ToldStep → List ℕ
+deeds s v told =
     flat_map print_deed (printed_by s.lines told.prints_before told.prints_behind)
-    ++ foot_deeds s told (slice_get s.feet told.number)
+    ++ foot_deeds s v told (slice_get s.feet told.number)

@@ -1,10 +1,11 @@
 -- What is drawn of the run of a program.
-use Rattle.std.specs.Prelude.{◌≡◌, ℕ, Bool, List, [], ◌++◌, codes, decimal, flat_map, map, Option, None, Some}
+use Rattle.std.specs.Prelude.{◌≡◌, ℕ, Bool, List, [], ◌++◌, codes, decimal, flat_map, map, Option, None, Some, slice_get}
 use Rattle.std.specs.List.{filter}
 use Rattle.mr_labels.specs.declared.step.Stand.{Stand}
 use Rattle.mr_labels.specs.declared.step.ToldStep.{ToldStep}
 use Rattle.mr_labels.specs.Words.{function_word}
 use Rattle.mr_listing.specs.Seen.{Seen}
+use Rattle.mr_listing.specs.declared.held.StepValues.{StepValues}
 use Rattle.mr_listing.specs.Spots.{stand_text}
 use Rattle.mr_listing.specs.Steps.{steps_text}
 use Rattle.mr_picture.specs.declared.scene.Drawn.{Drawn}
@@ -47,14 +48,14 @@ abbrev pub thread_of : Option Stand → Option ℕ
 thread_of None = None
 thread_of (Some stand) = Some stand.thread
 
--- what is drawn of a step
-abbrev pub drawn_of : Seen → ToldStep → Drawn
-drawn_of s told = record {
+-- what is drawn of a step of a run with these values
+abbrev pub drawn_of : Seen → List StepValues → ToldStep → Drawn
+drawn_of s values told = record {
   number = told.number;
   thread = told.thread;
   started = thread_of told.started;
   stand = stand_text s told.before;
-  did = deeds s told;
+  did = deeds s (slice_get values told.number) told;
 }
 
 -- whether a step is drawn
@@ -62,13 +63,13 @@ abbrev pub is_drawn : Span → ToldStep → Bool
 is_drawn span told = is_in span told.number
 
 -- what is drawn of those of these steps that are
-abbrev pub drawn_steps : Seen → Span → List ToldStep → List Drawn
-drawn_steps s span steps = map (drawn_of s) (filter (is_drawn span) steps)
+abbrev pub drawn_steps : Seen → List StepValues → Span → List ToldStep → List Drawn
+drawn_steps s values span steps = map (drawn_of s values) (filter (is_drawn span) steps)
 
 -- these steps of a run
-abbrev pub span_scene : Seen → Span → Scene
-span_scene s span = scene_of (sketch_of s) span (drawn_steps s span s.steps)
+abbrev pub span_scene : Seen → List StepValues → Span → Scene
+span_scene s values span = scene_of (sketch_of s) span (drawn_steps s values span s.steps)
 
 -- THE SCENE of those steps of a run that are asked for or, without any, of those about the first race
-abbrev pub asked_scene : Seen → Option Span → Scene
-asked_scene s asked = span_scene s (chosen s.count s.races asked)
+abbrev pub asked_scene : Seen → List StepValues → Option Span → Scene
+asked_scene s values asked = span_scene s values (chosen s.count s.races asked)

@@ -1,7 +1,8 @@
 //! What a step of a program's run did, as it is told beside it: each part behind a line feed.
 ghost use Rattle.std.specs.Prelude.{◌≡◌, ◌+◌, ◌++◌, OnOk, flat_map, option_copied, slice_get};
+ghost use Rattle.mr_listing.specs.Held.{held_for};
 ghost use Rattle.mr_listing.specs.Seen.{seen};
-ghost use Rattle.mr_picture.specs.Deeds.{access_deed, deeds, end_deed, event_deed, foot_deeds, in_text, numbered};
+ghost use Rattle.mr_picture.specs.Deeds.{access_deed, access_deeds, deed_at, deeds, end_deed, event_deed, foot_deeds, in_text, numbered};
 ghost use Rattle.mr_picture.specs.Deeds.{print_deed, printed_by, start_deed, wake_deed};
 
 use crate::OutOfMemory;
@@ -11,7 +12,8 @@ use mr_base::{Access, Event};
 use mr_event::Footprint;
 use mr_labels::{Stand, ToldStep, function_word, push_number};
 use mr_listing::{
-    Shown, access_word, acquire_word, join_word, push_bytes, push_reached, release_word,
+    Shown, StepValues, access_word, acquire_word, join_word, push_bytes, push_loaded, push_reached,
+    release_word,
 };
 use mr_report::Line;
 
@@ -119,20 +121,48 @@ pub fn push_woken(out: &mut Vec<u8>, woken: &[u32]) -> Result<(), OutOfMemory>
     Ok(())
 }
 
-// Appends an access.
+// Appends the access at a position of a step with these values.
 fn push_access(
     out: &mut Vec<u8>,
     shown: &Shown<'_>,
     here: Option<Stand>,
+    values: Option<&StepValues>,
+    at: usize,
     access: Access,
 ) -> Result<(), OutOfMemory>
-    ensures { OnOk result (out.new.items ≡ out.old.items ++ access_deed (seen shown.now) here access) }
+    ensures { OnOk result (out.new.items ≡ out.old.items
+        ++ access_deed (seen shown.now) here (held_for (option_copied values.entry) at access) access) }
 {
     push(out, "\n")?;
     push(out, access_word(access))?;
     push_reached(out, shown, here, access.addr)?;
+    push_loaded(out, shown, here, values, at, access)?;
     push(out, ", ")?;
     push_bytes(out, access.len)
+}
+
+fn access_at(accesses: &[Access], at: usize) -> Option<Access>
+    ensures { result ≡ slice_get accesses.now at }
+{
+    accesses.get(at).copied()
+}
+
+// Appends the access at a position, where there is one.
+fn push_access_at(
+    out: &mut Vec<u8>,
+    shown: &Shown<'_>,
+    here: Option<Stand>,
+    values: Option<&StepValues>,
+    accesses: &[Access],
+    at: usize,
+) -> Result<(), OutOfMemory>
+    ensures { OnOk result (out.new.items
+        ≡ out.old.items ++ deed_at (seen shown.now) here (option_copied values.entry) accesses.now at) }
+{
+    match access_at(accesses, at) {
+        Some(access) => push_access(out, shown, here, values, at, access),
+        None => Ok(()),
+    }
 }
 
 // Appends each access.
@@ -140,13 +170,14 @@ fn push_accesses(
     out: &mut Vec<u8>,
     shown: &Shown<'_>,
     here: Option<Stand>,
+    values: Option<&StepValues>,
     accesses: &[Access],
 ) -> Result<(), OutOfMemory>
     ensures { OnOk result (out.new.items
-        ≡ out.old.items ++ flat_map (access_deed (seen shown.now) here) accesses.now) }
+        ≡ out.old.items ++ access_deeds (seen shown.now) here (option_copied values.entry) accesses.now) }
 {
-    for access in accesses {
-        push_access(out, shown, here, *access)?;
+    for at in 0..accesses.len() {
+        push_access_at(out, shown, here, values, accesses, at)?;
     }
     Ok(())
 }
@@ -155,11 +186,13 @@ fn push_accesses(
 fn push_foot(
     out: &mut Vec<u8>,
     shown: &Shown<'_>,
+    values: Option<&StepValues>,
     told: &ToldStep,
     foot: Option<&Footprint>,
 ) -> Result<(), OutOfMemory>
     ensures { OnOk result (out.new.items
-        ≡ out.old.items ++ foot_deeds (seen shown.now) told.now (option_copied foot.entry)) }
+        ≡ out.old.items
+        ++ foot_deeds (seen shown.now) (option_copied values.entry) told.now (option_copied foot.entry)) }
 {
     match foot {
         None => Ok(()),
@@ -167,20 +200,22 @@ fn push_foot(
             push_event(out, shown, told, foot.event(), foot.woken())?;
             push_ended(out, foot.ended())?;
             push_woken(out, foot.woken())?;
-            push_accesses(out, shown, told.before, foot.accesses())
+            push_accesses(out, shown, told.before, values, foot.accesses())
         }
     }
 }
 
-/// Appends what a step did: its prints, what it did to locks and threads, and its accesses.
+/// Appends what a step with these values did: its prints, what it did to locks and threads, and its accesses.
 pub(crate) fn push_deeds(
     out: &mut Vec<u8>,
     shown: &Shown<'_>,
+    values: Option<&StepValues>,
     told: &ToldStep,
 ) -> Result<(), OutOfMemory>
-    ensures { OnOk result (out.new.items ≡ out.old.items ++ deeds (seen shown.now) told.now) }
+    ensures { OnOk result (out.new.items
+        ≡ out.old.items ++ deeds (seen shown.now) (option_copied values.entry) told.now) }
 {
     let printed = printed_by(shown.lines, told.prints_before, told.prints_behind);
     push_prints(out, printed)?;
-    push_foot(out, shown, told, foot_at(shown.feet, told.number))
+    push_foot(out, shown, values, told, foot_at(shown.feet, told.number))
 }

@@ -24,7 +24,7 @@ use crate::written::{Written, push_texts};
 use crate::{OutOfMemory, Span};
 use mr_clocks::Analysis;
 use mr_event::Pair;
-use mr_listing::Shown;
+use mr_listing::{Shown, StepValues};
 use mr_svg::{Sign, push_foot, push_head};
 use std::alloc::Global;
 
@@ -141,19 +141,20 @@ pub fn sketched(
     scene_text(alloc, &scene, order)
 }
 
-// The picture of these steps of the run of a program.
+// The picture of these steps of the run of a program with these values.
 fn span_text(
     alloc: Global,
     shown: &Shown<'_>,
+    values: &[StepValues],
     order: &Analysis,
     span: Span,
 ) -> Result<Vec<u8>, OutOfMemory>
     requires count { span.to < 2 ^ 32 }
     requires feet { length (seen shown.now).feet < 2 ^ 32 }
     requires tracks { Tracks order.now (seen shown.now).feet }
-    ensures { IfOk result (λ text. text.items ≡ scene_text (span_scene (seen shown.now) span)) }
+    ensures { IfOk result (λ text. text.items ≡ scene_text (span_scene (seen shown.now) values.now span)) }
 {
-    let steps = drawn_steps(alloc, shown, span, shown.steps)?;
+    let steps = drawn_steps(alloc, shown, values, span, shown.steps)?;
     let names = names_of(alloc, shown)?;
     let tail = tail_of(alloc, shown)?;
     let sketch = Sketch {
@@ -166,18 +167,20 @@ fn span_text(
     sketched(alloc, &sketch, order, span, steps.as_slice())
 }
 
-/// The picture of the run of a program, of the steps that are asked for or, without any, of those about the first race. An
-/// `Err` is for want of memory.
+/// The picture of the run of a program with these values, of the steps that are asked for or, without any, of those about
+/// the first race. An `Err` is for want of memory.
 pub fn picture(
     alloc: Global,
     shown: &Shown<'_>,
+    values: &[StepValues],
     order: &Analysis,
     asked: Option<Span>,
 ) -> Result<Vec<u8>, OutOfMemory>
     requires count { (seen shown.now).count < 2 ^ 32 }
     requires feet { length (seen shown.now).feet < 2 ^ 32 }
     requires tracks { Tracks order.now (seen shown.now).feet }
-    ensures { IfOk result (λ text. text.items ≡ picture_text (seen shown.now) asked) }
+    ensures { IfOk result (λ text. text.items ≡ picture_text (seen shown.now) values.now asked) }
 {
-    span_text(alloc, shown, order, chosen(shown.count, shown.races, asked))
+    let span = chosen(shown.count, shown.races, asked);
+    span_text(alloc, shown, values, order, span)
 }

@@ -1,5 +1,5 @@
 //! What is drawn of the run of a program.
-ghost use Rattle.std.specs.Prelude.{◌≡◌, ◌++◌, IfOk, OnOk, flat_map};
+ghost use Rattle.std.specs.Prelude.{◌≡◌, ◌++◌, IfOk, OnOk, flat_map, option_copied, slice_get};
 ghost use Rattle.mr_listing.specs.Seen.{seen};
 ghost use Rattle.mr_picture.specs.Drawn.{drawn_of, drawn_steps, name_of, names_of, started_name, tail_of, thread_of};
 ghost use Rattle.mr_picture.specs.Drawn.{told_name};
@@ -9,7 +9,7 @@ use crate::scene::{Drawn, is_in};
 use crate::texts::push;
 use crate::{OutOfMemory, Span};
 use mr_labels::{Stand, ToldStep, function_word, push_number};
-use mr_listing::{Shown, stand_text, steps};
+use mr_listing::{Shown, StepValues, stand_text, steps};
 use mr_sched::Items;
 use std::alloc::Global;
 
@@ -101,13 +101,25 @@ fn thread_of(stand: Option<Stand>) -> Option<u32>
     }
 }
 
-// What is drawn of a step.
-fn drawn_of(alloc: Global, shown: &Shown<'_>, told: &ToldStep) -> Result<Drawn, OutOfMemory>
-    ensures { IfOk result (λ drawn. drawn ≡ drawn_of (seen shown.now) told.now) }
+// The values of the step of this number, if they are told.
+fn values_at(values: &[StepValues], number: usize) -> Option<&StepValues>
+    ensures { option_copied result ≡ slice_get values.now number }
+{
+    values.get(number)
+}
+
+// What is drawn of a step of a run with these values.
+fn drawn_of(
+    alloc: Global,
+    shown: &Shown<'_>,
+    values: &[StepValues],
+    told: &ToldStep,
+) -> Result<Drawn, OutOfMemory>
+    ensures { IfOk result (λ drawn. drawn ≡ drawn_of (seen shown.now) values.now told.now) }
 {
     let stand = stand_text(alloc, shown, told.before)?;
     let mut did = Vec::new(alloc);
-    push_deeds(&mut did, shown, told)?;
+    push_deeds(&mut did, shown, values_at(values, told.number), told)?;
     Ok(Drawn {
         number: told.number,
         thread: told.thread,
@@ -121,15 +133,16 @@ fn drawn_of(alloc: Global, shown: &Shown<'_>, told: &ToldStep) -> Result<Drawn, 
 pub(crate) fn drawn_steps(
     alloc: Global,
     shown: &Shown<'_>,
+    values: &[StepValues],
     span: Span,
     steps: &[ToldStep],
 ) -> Result<Vec<Drawn>, OutOfMemory>
-    ensures { IfOk result (λ drawn. drawn.items ≡ drawn_steps (seen shown.now) span steps.now) }
+    ensures { IfOk result (λ drawn. drawn.items ≡ drawn_steps (seen shown.now) values.now span steps.now) }
 {
     let mut drawn = Vec::new(alloc);
     for told in steps {
         if is_in(span, told.number) {
-            let step = drawn_of(alloc, shown, told)?;
+            let step = drawn_of(alloc, shown, values, told)?;
             drawn.push(step)?;
         }
     }

@@ -8,6 +8,7 @@ ghost use Rattle.mr_svg.specs.declared.shape.Sign.TheVariants.{MachineOrder};
 ghost use Rattle.mr_picture.specs.declared.scene.Drawn.{Drawn};
 ghost use Rattle.mr_picture.specs.declared.span.Span.{Span};
 ghost use Rattle.mr_listing.specs.Seen.{Seen};
+ghost use Rattle.mr_listing.specs.declared.held.StepValues.{StepValues};
 ghost use Rattle.mr_picture.specs.Arrows.{arrows};
 ghost use Rattle.mr_picture.specs.Clear.{IsClearOf};
 ghost use Rattle.mr_labels.specs.declared.step.Stand.{Stand};
@@ -30,8 +31,9 @@ pub fn marks_lie_inside()
         → All (IsInside (width (scene_of s span steps)) (height (scene_of s span steps))) (marks (scene_of s span steps)) }
 
     // Of the run of a program.
-    ensures program { (s : Seen) (asked : Option Span) → s.count ≤ 2 ^ 22
-        → All (IsInside (width (asked_scene s asked)) (height (asked_scene s asked))) (marks (asked_scene s asked)) }
+    ensures program { (s : Seen) (values : List StepValues) (asked : Option Span) → s.count ≤ 2 ^ 22
+        → All (IsInside (width (asked_scene s values asked)) (height (asked_scene s values asked)))
+        (marks (asked_scene s values asked)) }
 {}
 
 /// A law: no arrow and no line of a race comes near the mark of a drawn step that isn't one of its two.

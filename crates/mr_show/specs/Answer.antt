@@ -33,11 +33,13 @@ use Rattle.mr_listing.specs.Seen.{Seen}
 use Rattle.mr_listing.specs.Spoken.{spoken_line}
 use Rattle.mr_listing.specs.Steps.{steps_text}
 use Rattle.mr_picture.specs.Picture.{picture_text}
+use Rattle.mr_picture.specs.Scene.{chosen}
 use Rattle.mr_picture.specs.WayTexts.{order_text}
 use Rattle.mr_rust_order.specs.Tests.{rust_races}
 use Rattle.mr_two_orders.specs.Pairs.{either}
 use Rattle.mr_two_orders.specs.Texts.{two_orders_text}
 use Rattle.mr_event.specs.Footprint.{Footprint}
+use Rattle.mr_event.specs.Predicted.{predicted}
 use Rattle.mr_event.specs.declared.footprint.Pair.{Pair}
 use Rattle.mr_show.specs.declared.form.Part.{Part}
 use Rattle.mr_show.specs.declared.form.Part.TheVariants.{Json, Order, Picture, Races, Steps, TwoOrders}
@@ -104,14 +106,27 @@ run_seen part text p w =
     gathered text p (run_of p w) (length w.entries) (rows_in (told_for part) p w) (steps_in (told_for part) p w)
     (stands_in (told_for part) p w) (steps_of p w)
 
+-- the steps of a picture as a part
+abbrev pub drawn_part : Span → Between
+drawn_part span = record { from = span.from; to = span.to }
+
+-- which steps of a run of so many, with these races, are told with values for a part: those of a picture that it has
+abbrev pub valued_part : Part → ℕ → List Pair → Option Between
+valued_part (Steps from to) count races = Some (record { from = from; to = to })
+valued_part Json count races = Some (record { from = 0; to = 2 ^ 22 })
+valued_part Races count races = None
+valued_part TwoOrders count races = None
+valued_part (Order first second) count races = None
+valued_part (Picture asked) count races = Some (drawn_part (chosen count races asked))
+
+abbrev pub values_in : Option Between → Program → Schedule → List Allocation → List Footprint → List StepValues
+values_in None p w rows feet = []
+values_in (Some part) p w rows feet = run_values p w rows feet part
+
 -- what the accesses of a run loaded and stored that has these allocations and footprints, where a part tells it
 abbrev pub part_values : Part → Program → Schedule → List Allocation → List Footprint → List StepValues
-part_values (Steps from to) p w rows feet = run_values p w rows feet (record { from = from; to = to })
-part_values Json p w rows feet = run_values p w rows feet (record { from = 0; to = 2 ^ 22 })
-part_values Races p w rows feet = []
-part_values TwoOrders p w rows feet = []
-part_values (Order first second) p w rows feet = []
-part_values (Picture asked) p w rows feet = []
+part_values part p w rows feet =
+    values_in (valued_part part (length w.entries) (predicted feet)) p w rows feet
 
 abbrev pub told_values : Part → Program → Schedule → List StepValues
 told_values part p w = part_values part p w (rows_in (told_for part) p w) (steps_of p w)
@@ -126,7 +141,7 @@ part_text Json spoken values s = json_text s values
 part_text Races spoken values s = races_text s
 part_text TwoOrders spoken values s = two_orders_text s
 part_text (Order first second) spoken values s = order_text s first second
-part_text (Picture asked) spoken values s = picture_text s asked
+part_text (Picture asked) spoken values s = picture_text s values asked
 
 -- the races by Rust's order, where a part tells of them
 abbrev pub rust_of : Part → List Footprint → List Pair

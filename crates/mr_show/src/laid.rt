@@ -9,7 +9,7 @@ ghost use Rattle.mr_listing.specs.Seen.{seen};
 ghost use Rattle.mr_listing.specs.Spoken.{spoken_line};
 ghost use Rattle.mr_run.specs.Runs.{IsRun};
 ghost use Rattle.mr_start.specs.Runs.{Legal};
-ghost use Rattle.mr_show.specs.Answer.{part_answer, part_text, part_values, rust_of};
+ghost use Rattle.mr_show.specs.Answer.{drawn_part, part_answer, part_text, part_values, rust_of, valued_part};
 ghost use Rattle.mr_listing.specs.Steps.{steps_text};
 ghost use Rattle.mr_show.specs.Gathered.{gathered};
 ghost use Rattle.mr_show.specs.Sentences.{reason_text};
@@ -24,7 +24,7 @@ use mr_input::Written;
 use mr_json::json;
 use mr_labels::{Allocation, Allocations, Reached, Stand, ToldStep};
 use mr_listing::{Shown, StepValues, push_spoken, races, steps};
-use mr_picture::{order_text, picture};
+use mr_picture::{Span, chosen, order_text, picture};
 use mr_replay::{Between, rests};
 use mr_run::Clocked;
 use mr_rust_order::races as races_by_rust;
@@ -65,7 +65,7 @@ pub(crate) fn laid(
     let lines = lines_of(alloc, machine)?;
     let rests = rests(alloc, machine)?;
     let feet = kept.steps();
-    let values = values_of(alloc, part, p, w, &rows, feet)?;
+    let values = values_of(alloc, part, p, w, &rows, kept)?;
     let shown = Shown {
         text,
         program,
@@ -97,18 +97,38 @@ fn values_of(
     p: &Checked,
     w: &Schedule,
     rows: &Allocations,
-    feet: &[Footprint],
+    kept: &Clocked,
 ) -> Result<Vec<StepValues>, AllocError>
     requires few { length w.now.entries ≤ 2 ^ 22 }
     requires legal { Legal p.now w.now }
-    ensures { IfOk result (λ values. values.items ≡ part_values part p.now w.now rows.now feet.now) }
+    ensures { IfOk result (λ values. values.items ≡ part_values part p.now w.now rows.now kept.now) }
+{
+    match valued_part(part, w.entries.len(), kept.races()) {
+        Some(told) => values(alloc, p, w, rows, kept.steps(), told),
+        None => Ok(Vec::new(alloc)),
+    }
+}
+
+// Which steps of a run of so many, with these races, are told with values for a part.
+fn valued_part(part: Part, count: usize, races: &[Pair]) -> Option<Between>
+    requires { count < 2 ^ 32 }
+    ensures { result ≡ valued_part part count races.now }
 {
     match part {
-        Part::Steps { from, to } => values(alloc, p, w, rows, feet, Between { from, to }),
-        Part::Json => values(alloc, p, w, rows, feet, Between { from: 0, to: ALL }),
-        Part::Races | Part::TwoOrders | Part::Order { .. } | Part::Picture { .. } => {
-            Ok(Vec::new(alloc))
-        }
+        Part::Steps { from, to } => Some(Between { from, to }),
+        Part::Json => Some(Between { from: 0, to: ALL }),
+        Part::Picture { asked } => Some(drawn_part(chosen(count, races, asked))),
+        Part::Races | Part::TwoOrders | Part::Order { .. } => None,
+    }
+}
+
+// The steps of a picture as a part.
+fn drawn_part(span: Span) -> Between
+    ensures { result ≡ drawn_part span }
+{
+    Between {
+        from: span.from,
+        to: span.to,
     }
 }
 
@@ -187,6 +207,6 @@ fn text_of(
         Part::Races => races(alloc, shown),
         Part::TwoOrders => two_orders(alloc, shown, order, rust),
         Part::Order { first, second } => order_text(alloc, shown, order, first, second),
-        Part::Picture { asked } => picture(alloc, shown, order, asked),
+        Part::Picture { asked } => picture(alloc, shown, values, order, asked),
     }
 }

@@ -1,10 +1,11 @@
-use Rattle.mr_show.proofs.Common.{◌≡◌, ◌<◌, ◌^◌, ◌∙◌, List, ap, ap₂, arith, length, subst, sym, IfOk, Option, Footprint, Written, Seen, part_answer, part_values, gathered}
+use Rattle.mr_show.proofs.Common.{◌≡◌, ◌<◌, ◌^◌, ◌∙◌, List, ap, arith, length, subst, sym, IfOk, Option, Footprint, Written, Seen, part_answer, part_values, gathered}
 use Rattle.mr_clocks.specs.Tracked.{Tracks}
 use Rattle.mr_event.specs.Predicted.{predicted}
 use Rattle.mr_step.specs.PlanRuns.{Config}
 use Rattle.mr_start.specs.Steps.{Own}
 use Rattle.mr_listing.specs.declared.held.StepValues.{StepValues}
 use Rattle.mr_base.specs.declared.reached.Reached.{Reached}
+use Rattle.mr_labels.specs.declared.rows.Allocation.{Allocation}
 use Rattle.mr_input.specs.Answer.{Answer, seen as written_as}
 use Rattle.mr_show.proofs.laid.laid.Goals as goal
 
@@ -66,7 +67,8 @@ returns-clause-answer c =
     let spoken : Option Reached = c.about.result in
     let values =
     c.as_slice-3.ensures.value ∙ c.in_ok-values.ensures
-    ∙ ap₂ (part_values part c.args.p.now c.args.w.now) c.in_ok-rows.ensures c.steps-feet.ensures in
+    ∙ ap (λ (rows : List Allocation). part_values part c.args.p.now c.args.w.now rows c.args.kept.now)
+    c.in_ok-rows.ensures in
     let answer : Option Reached → List StepValues → Seen → Type 0 = λ x vs s.
     IfOk c.written.result (λ (a : Written). written_as a ≡ part_answer part x vs s) in
     let laid = subst (answer spoken c.as_slice-3.result.now) same c.written.ensures.answer in
