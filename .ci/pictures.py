@@ -27,6 +27,8 @@ TOP = os.path.dirname(os.path.dirname(os.path.abspath(__file__)))
 COMPANION = f"{TOP}/crates/mirace_show/out/mirace_show"
 EXAMPLES, PICTURES = f"{TOP}/examples", f"{TOP}/docs/pictures"
 SPACE = "{http://www.w3.org/2000/svg}"
+# How a line of an access begins.
+ACCESS = ("load ", "store ", "atomic load ", "atomic store ")
 # The elements of a document, each with its attributes.
 KNOWN = {"svg": {"width", "height", "viewBox", "role", "{http://www.w3.org/XML/1998/namespace}space"}, "title": set(), "style": set(), "defs": set(), "rect": {"class", "width", "height"},
          "marker": {"id", "viewBox", "refX", "refY", "markerWidth", "markerHeight", "orient", "markerUnits", "class"}, "g": {"class"}, "path": {"d", "class"},
@@ -218,6 +220,18 @@ def threads_named(picture):
     return [it for it in picture.titled("note") if it.startswith("T0 ")], wanted
 
 
+def accesses_in(titles):
+    """What the titles of steps tell of loads and stores."""
+    steps = [(found, title) for title in titles if (found := re.match(r"step (\d+), thread ", title))]
+    return {int(found.group(1)): [line for line in title.split("\n") if line.startswith(ACCESS)] for found, title in steps}
+
+
+def accesses_of(steps):
+    """The same of the steps of a listing."""
+    lines = {step.number: [line.strip().decode() for line in step.below] for step in steps}
+    return {number: [line for line in told if line.startswith(ACCESS)] for number, told in lines.items()}
+
+
 def told_and_drawn(picture):
     """The signs that the legend tells, and those that the other marks have."""
     words = set(LEGEND.values())
@@ -238,6 +252,8 @@ def picture(judge, what, text, steps, feet, pairs):
     judge(f"{what}: no link of its picture comes near a foreign mark", not list(too_near(it)), f"{list(too_near(it))[:3]}")
     marks = sorted(numbers(it.titled("step") + it.titled("racing") + it.titled("stop"), r"step (\d+), thread .*"))
     judge(f"{what}: the steps of its picture", marks == [step.number for step in steps], f"{marks}")
+    told, wanted = accesses_in(it.titled("step") + it.titled("racing") + it.titled("stop")), accesses_of(steps)
+    judge(f"{what}: what its picture tells of loads and stores", told == wanted, f"{told}, not {wanted}")
     told, wanted = told_and_drawn(it)
     judge(f"{what}: the legend of its picture", told == wanted, f"{told}, not {wanted}")
     named, wanted = threads_named(it)
