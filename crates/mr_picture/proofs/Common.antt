@@ -24,7 +24,7 @@ pub use Rattle.mr_picture.specs.Ends.{behind_line, first_line, head_marks, line_
 pub use Rattle.mr_picture.specs.Grid.{row_y, rows_end, tail_count}
 pub use Rattle.mr_picture.specs.Lanes.{ends, first_that, lane_mark, lane_marks, name_mark, starts}
 pub use Rattle.mr_picture.specs.Legend.{arrow_entry, entry, legend_marks, legend_row, middle, race_entry, sample, words_mark}
-pub use Rattle.mr_picture.specs.Links.{arrow_between, arrow_mark, beside, corner_of, foot_place, is_wake, race_between, race_mark}
+pub use Rattle.mr_picture.specs.Links.{arrow_between, arrow_mark, beside, corner_of, drawn_races, foot_place, is_wake, race_between, race_mark}
 pub use Rattle.mr_picture.specs.Marks.{drawn_marks, round_marks}
 pub use Rattle.mr_picture.specs.Picture.{scene_text}
 pub use Rattle.mr_picture.specs.Scene.{done_in, IsRace, IsSmall, near_in, race_in, Scene, scene_in, scene_of, Sketch, takes_one}

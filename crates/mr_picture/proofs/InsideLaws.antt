@@ -1,5 +1,5 @@
 -- Each mark of a picture lies inside it.
-use Rattle.mr_picture.proofs.Common.{◌≡◌, ℕ, zero, suc, ◌+◌, ◌-◌, ◌*◌, ◌<◌, ◌≤◌, ◌^◌, Bool, true, false, List, [], ◌∷◌, ◌++◌, length, map, refl, ap, arith, and_parts, length-append, All-weaker, ◌==◌, All, Option, None, Some, codes, decimal, flat_map, if◌then◌else◌, nat_le, nat_lt, slice_get, Contains, filter, range_with_len, Pair, thread_at, Seen, Span, arrows, holds_race, is_in, races_in, steps_in, left_out, witness_steps, Point, Diamond, Dot, Words, Mark, Drawn, column_marks, column_name, column_place, column_race, kept_mark, kept_marks, kept_number, left_mark, left_marks, left_number, rows_marks, behind_line, first_line, head_marks, line_marks, part_mark, tail_mark, title_mark, row_y, rows_end, tail_count, ends, first_that, lane_mark, lane_marks, name_mark, starts, arrow_entry, legend_marks, middle, race_entry, sample, words_mark, arrow_mark, foot_place, is_wake, race_mark, drawn_steps, sketch_of, round_marks, Scene, Sketch, done_in, race_in, scene_of, takes_one, did_mark, mark_of, number_mark, row_marks, stand_mark, step_mark, step_marks, cut_at, as_written, drawn_marks, legend_row}
+use Rattle.mr_picture.proofs.Common.{◌≡◌, ℕ, zero, suc, ◌+◌, ◌-◌, ◌*◌, ◌<◌, ◌≤◌, ◌^◌, Bool, true, false, List, [], ◌∷◌, ◌++◌, length, map, refl, ap, arith, and_parts, length-append, All-weaker, ◌==◌, All, Option, None, Some, codes, decimal, flat_map, if◌then◌else◌, nat_le, nat_lt, slice_get, Contains, filter, range_with_len, Pair, thread_at, Seen, Span, arrows, holds_race, is_in, races_in, steps_in, left_out, witness_steps, Point, Diamond, Dot, Words, Mark, Drawn, column_marks, column_name, column_place, column_race, kept_mark, kept_marks, kept_number, left_mark, left_marks, left_number, rows_marks, behind_line, first_line, head_marks, line_marks, part_mark, tail_mark, title_mark, row_y, rows_end, tail_count, ends, first_that, lane_mark, lane_marks, name_mark, starts, arrow_entry, legend_marks, middle, race_entry, sample, words_mark, arrow_mark, drawn_races, foot_place, is_wake, race_mark, drawn_steps, sketch_of, round_marks, Scene, Sketch, done_in, race_in, scene_of, takes_one, did_mark, mark_of, number_mark, row_marks, stand_mark, step_mark, step_marks, cut_at, as_written, drawn_marks, legend_row}
 use Rattle.std.proofs.Common.{lit≤}
 use Rattle.std.proofs.lemmas.Fmt.{length-decimal-le}
 use Rattle.std.proofs.lemmas.List.Elements.{All-append, All-cons, All-contains, All-filter, All-from_recursion, All-head, All-map, All-nil, All-tail, filter_passes}
@@ -26,7 +26,7 @@ use Rattle.mr_picture.specs.Texts.{cut}
 use Rattle.mr_picture.proofs.ArrowLaws.{arrow_is}
 use Rattle.mr_picture.proofs.Members.{from_flat, from_range}
 use Rattle.mr_picture.proofs.Counts.{rows_few}
-use Rattle.mr_picture.proofs.Within.{each, from_filter, left_below, witness_below}
+use Rattle.mr_picture.proofs.Within.{each, from_filter, from_take, left_below, witness_below}
 use Rattle.mr_svg.specs.declared.shape.Sign.TheVariants as sign
 use Rattle.mr_picture.specs.declared.steps.Part.TheVariants as part
 use Rattle.mr_picture.proofs.Room.{IsPlace, arrow_inside, cut_short, in_part, race_inside, round_inside}
@@ -403,15 +403,19 @@ line_in s y text above below =
     let few = cut_short 70 text in
     (omega (arith, fits, behind, few), record { above = above; below = below })
 
+-- and one that is cut where it has no more room
+room_in : (s : Scene) (y : ℕ) (text : List ℕ) → 16 ≤ y → y + 8 ≤ height s
+    → IsShapeInside (width s) (height s) (cut_at (line_room s) text) (Words (record { x = 16; y = y }))
+room_in s y text above below =
+    let fits = wide_enough s in
+    let few = cut_short (line_room s) text in
+    (omega (arith, fits, few), record { above = above; below = below })
+
 names_in : (s : Scene) → All (IsIn s) (names_marks s)
 names_in s = by (length s.sketch.names == 0)
   where
     inside : IsIn s (names_mark s)
-    inside =
-        let fits = wide_enough s in
-        let deep = high_enough s in
-        let few = cut_short (line_room s) s.sketch.names in
-        (omega (arith, fits, few), record { above = omega arith; below = omega (arith, deep) })
+    inside = room_in s 70 s.sketch.names (omega arith) (omega (arith, high_enough s))
 
     by : (b : Bool) → All (IsIn s) (if b then [] else names_mark s ∷ [])
     by true = All-nil (IsIn s)
@@ -422,7 +426,7 @@ heads_in s =
     let deep = high_enough s in
     All-append (IsIn s) (title_mark s ∷ part_mark s ∷ []) (names_marks s)
     (all_two (IsIn s) (title_mark s) (part_mark s) (line_in s 30 (title_text s) (omega arith) (omega (arith, deep)))
-    (line_in s 54 (part_text s) (omega arith) (omega (arith, deep))))
+    (room_in s 54 (part_text s) (omega arith) (omega (arith, deep))))
     (names_in s)
 
 tail_below : (s : Scene) (n : ℕ) → n < tail_count s → tail_y s n + 8 ≤ height s
@@ -543,10 +547,11 @@ lanes_all s h =
 arrows_all : (s : Scene) → IsLaid s → All (IsIn s) (map (arrow_mark s) (arrows s.sketch.feet s.done))
 arrows_all s h = all_mapped (IsIn s) (arrow_mark s) (arrows s.sketch.feet s.done) (λ a there. arrow_in s a h there)
 
-races_all : (s : Scene) → IsLaid s → All (IsIn s) (map (race_mark s) (races_in s.done s.near))
+races_all : (s : Scene) → IsLaid s → All (IsIn s) (map (race_mark s) (drawn_races s))
 races_all s h =
-    all_mapped (IsIn s) (race_mark s) (races_in s.done s.near) (λ r there.
-    race_in_picture s r h (from_filter (holds_race s.done) s.near r there).1)
+    all_mapped (IsIn s) (race_mark s) (drawn_races s) (λ r there.
+    race_in_picture s r h
+    (from_filter (holds_race s.done) s.near r (from_take 6 (races_in s.done s.near) r there)).1)
 
 steps_all : (s : Scene) → IsLaid s → All (IsIn s) (flat_map (step_marks s) s.steps)
 steps_all s h =
@@ -559,7 +564,7 @@ drawn_in s h =
     let rows = flat_map (row_marks s) (steps_in s.span) in
     let lanes = flat_map (lane_marks s) s.threads in
     let links = map (arrow_mark s) (arrows s.sketch.feet s.done) in
-    let races = map (race_mark s) (races_in s.done s.near) in
+    let races = map (race_mark s) (drawn_races s) in
     let steps = flat_map (step_marks s) s.steps in
     All-append (IsIn s) (rows ++ lanes ++ races ++ links ++ steps) (round_marks s)
     (All-append (IsIn s) (rows ++ lanes ++ races ++ links) steps

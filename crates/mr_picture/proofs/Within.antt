@@ -1,6 +1,7 @@
 -- Arrows, races and steps of a part are those of the run.
-use Rattle.mr_picture.proofs.Common.{◌≡◌, ℕ, ◌-◌, ◌<◌, ◌≤◌, inl, inr, Bool, true, false, List, [], ◌∷◌, length, get_or, refl, sym, subst, arith, and_parts, nat_tests, Contains-append_cases, Contains-append_right, filter-append, All, nat_le, nat_lt, Contains, filter, range_with_len, Footprint, Pair, Span, holds_race, is_in, races_in, steps_in, is_left_out, is_other, left_out, witness_steps}
-use Rattle.std.proofs.lemmas.List.Elements.{All-contains_itself}
+use Rattle.mr_picture.proofs.Common.{◌≡◌, ℕ, ◌-◌, ◌<◌, ◌≤◌, inl, inr, Bool, true, false, List, [], ◌∷◌, length, get_or, take, drop, refl, sym, subst, arith, and_parts, nat_tests, Contains-append_cases, Contains-append_right, filter-append, All, nat_le, nat_lt, Contains, filter, range_with_len, Footprint, Pair, Span, holds_race, is_in, races_in, steps_in, is_left_out, is_other, left_out, witness_steps}
+use Rattle.std.proofs.lemmas.List.{take-append-drop}
+use Rattle.std.proofs.lemmas.List.Elements.{All-contains_itself, Contains-append_left}
 use Rattle.mr_picture.proofs.Members.{first_of, from_range, none, only}
 use Rattle.mr_picture.proofs.WitnessLaws.{no_one, one}
 
@@ -25,6 +26,11 @@ from_filter p (y ∷ ys) x h =
         let same = only y x (subst (λ zs. Contains zs x) (one p y e) here) in
         (subst (λ z. Contains (z ∷ ys) x) (sym same) (first_of x ys), subst (λ z. p z ≡ true) same e)
     first false e here = absurd (none x (subst (λ zs. Contains zs x) (no_one p y e) here))
+
+-- what the front of a list has is in the list
+pub from_take : {X : Type 0} (n : ℕ) (xs : List X) (x : X) → Contains (take n xs) x → Contains xs x
+from_take n xs x h =
+    subst (λ zs. Contains zs x) (take-append-drop n xs) (Contains-append_left (take n xs) (drop n xs) x h)
 
 abbrev pub IsPairOf : List Footprint → Pair → Type 0
 IsPairOf run pair = (pair.first < length run) × (pair.second < length run)

@@ -1,12 +1,13 @@
 -- What is written above the rows and below them.
 use Rattle.std.specs.Prelude.{ℕ, zero, suc, ◌+◌, ◌-◌, ◌/◌, ◌==◌, ◌&&◌, not, if◌then◌else◌, List, [], ◌∷◌, ◌++◌, codes, decimal}
-use Rattle.std.specs.Prelude.{drop, length, take}
+use Rattle.std.specs.Prelude.{count_by, drop, length, nat_lt, take}
 use Rattle.std.specs.List.{prefix_len}
 use Rattle.mr_svg.specs.declared.shape.Shape.TheVariants.{Words}
 use Rattle.mr_svg.specs.declared.shape.Sign.TheVariants as sign
 use Rattle.mr_svg.specs.Svg.{Mark}
 use Rattle.mr_picture.specs.Grid.{is_line_end, tail_y, width}
 use Rattle.mr_picture.specs.Scene.{Scene}
+use Rattle.mr_picture.specs.Span.{holds_race}
 use Rattle.mr_picture.specs.Steps.{mark_of}
 use Rattle.mr_picture.specs.Texts.{cut_at}
 
@@ -27,20 +28,35 @@ left_text s =
     codes "drawn: " ++ decimal (s.span.to - s.span.from) ++ codes "; left out: " ++ decimal s.span.from
     ++ codes " before them and " ++ decimal (s.sketch.count - s.span.to) ++ codes " behind"
 
+-- which steps are drawn
+abbrev pub steps_text : Scene → List ℕ
+steps_text s =
+    if (s.span.from == 0) && (s.span.to == s.sketch.count) then codes "all of them are drawn" else left_text s
+
+-- how many races there are of which both steps are drawn
+abbrev pub race_total : Scene → ℕ
+race_total s = count_by (holds_race s.done) s.near
+
+-- of how many races six are drawn, where there are more
+abbrev pub six_text : ℕ → List ℕ
+six_text races = codes "; of their " ++ decimal races ++ codes " races 6 are drawn"
+
+abbrev pub races_text : ℕ → List ℕ
+races_text races = if nat_lt 6 races then six_text races else []
+
 -- WHICH STEPS ARE DRAWN, and what is left out
 abbrev pub part_text : Scene → List ℕ
-part_text s =
-    if (s.span.from == 0) && (s.span.to == s.sketch.count) then codes "all of them are drawn" else left_text s
+part_text s = steps_text s ++ races_text (race_total s)
 
 abbrev pub title_mark : Scene → Mark
 title_mark s = mark_of sign.Title (Words (record { x = 16; y = 30 })) (cut_at 70 (title_text s)) (title_text s)
 
-abbrev pub part_mark : Scene → Mark
-part_mark s = mark_of sign.Note (Words (record { x = 16; y = 54 })) (cut_at 70 (part_text s)) (part_text s)
-
 -- so many bytes have room on a line
 abbrev pub line_room : Scene → ℕ
 line_room s = (width s - 40) / 8
+
+abbrev pub part_mark : Scene → Mark
+part_mark s = mark_of sign.Note (Words (record { x = 16; y = 54 })) (cut_at (line_room s) (part_text s)) (part_text s)
 
 -- WHOSE THE LANES ARE, where it is known: each thread with its function, as far as there is room
 abbrev pub names_mark : Scene → Mark

@@ -1,6 +1,6 @@
 -- Arrows and races.
 use Rattle.std.specs.Prelude.{ℕ, ◌+◌, ◌-◌, ◌==◌, ◌&&◌, Bool, true, false, nat_lt, if◌then◌else◌, List, [], ◌++◌}
-use Rattle.std.specs.Prelude.{codes, Option, None, Some}
+use Rattle.std.specs.Prelude.{codes, take, Option, None, Some}
 use Rattle.mr_event.specs.declared.footprint.Pair.{Pair}
 use Rattle.mr_event.specs.Footprint.{Footprint}
 use Rattle.mr_event.specs.Footprints.{wakes}
@@ -15,6 +15,7 @@ use Rattle.mr_svg.specs.declared.shape.Sign.TheVariants as sign
 use Rattle.mr_svg.specs.Svg.{Mark}
 use Rattle.mr_picture.specs.Grid.{place_of}
 use Rattle.mr_picture.specs.Scene.{Scene}
+use Rattle.mr_picture.specs.Span.{races_in}
 use Rattle.mr_picture.specs.Texts.{step_word}
 
 -- so far from one number, on the side of another one
@@ -115,3 +116,7 @@ race_mark s race = record {
   words = [];
   title = race_title race;
 }
+
+-- THE RACES THAT HAVE A LINE: of those both of whose steps are drawn, in the order of the list, the first six
+abbrev pub drawn_races : Scene → List Pair
+drawn_races s = take 6 (races_in s.done s.near)

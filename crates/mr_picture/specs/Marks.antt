@@ -6,9 +6,9 @@ use Rattle.mr_picture.specs.Column.{column_marks}
 use Rattle.mr_picture.specs.Ends.{head_marks, line_marks}
 use Rattle.mr_picture.specs.Grid.{tail_count}
 use Rattle.mr_picture.specs.Lanes.{lane_marks}
-use Rattle.mr_picture.specs.Links.{arrow_mark, race_mark}
+use Rattle.mr_picture.specs.Links.{arrow_mark, drawn_races, race_mark}
 use Rattle.mr_picture.specs.Scene.{Scene}
-use Rattle.mr_picture.specs.Span.{races_in, steps_in}
+use Rattle.mr_picture.specs.Span.{steps_in}
 use Rattle.mr_picture.specs.Steps.{row_marks, step_marks}
 
 -- the witness's column, and what is written above and below
@@ -20,7 +20,7 @@ abbrev pub drawn_marks : Scene → List Mark
 drawn_marks s =
     flat_map (row_marks s) (steps_in s.span)
     ++ flat_map (lane_marks s) s.threads
-    ++ map (race_mark s) (races_in s.done s.near)
+    ++ map (race_mark s) (drawn_races s)
     ++ map (arrow_mark s) (arrows s.sketch.feet s.done)
     ++ flat_map (step_marks s) s.steps
     ++ round_marks s

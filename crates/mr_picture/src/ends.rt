@@ -4,7 +4,7 @@ ghost use Rattle.mr_picture.specs.Written.{as_written};
 ghost use Rattle.mr_svg.specs.declared.shape.Shape.TheVariants as Shape;
 ghost use Rattle.mr_picture.specs.Ends.{behind_line, counted, first_line, head_marks, line_length, line_marks};
 ghost use Rattle.mr_picture.specs.Ends.{left_text, line_room, names_mark, names_marks, part_mark, part_text, tail_mark, title_mark};
-ghost use Rattle.mr_picture.specs.Ends.{title_text};
+ghost use Rattle.mr_picture.specs.Ends.{race_total, races_text, six_text, steps_text, title_text};
 ghost use Rattle.mr_picture.specs.Grid.{tail_count};
 ghost use Rattle.mr_picture.specs.Scene.{IsSmall, scene_in};
 ghost use Rattle.mr_picture.specs.Steps.{mark_of};
@@ -12,7 +12,8 @@ ghost use Rattle.mr_picture.specs.Texts.{cut_at};
 
 use crate::OutOfMemory;
 use crate::grid::{is_line_end, tail_count, tail_y, width};
-use crate::scene::Scene;
+use crate::links::MOST;
+use crate::scene::{Scene, holds_race};
 use crate::texts::{cut_at, push};
 use crate::written::{Written, push_mark};
 use mr_labels::push_number;
@@ -60,16 +61,56 @@ fn push_left_out(out: &mut Vec<u8>, scene: &Scene<'_>) -> Result<(), OutOfMemory
     push(out, " behind")
 }
 
+// Appends which steps are drawn.
+fn push_drawn_steps(out: &mut Vec<u8>, scene: &Scene<'_>) -> Result<(), OutOfMemory>
+    ensures { OnOk result (out.new.items ≡ out.old.items ++ steps_text (scene_in scene.now)) }
+{
+    if scene.span.from == 0 && scene.span.to == scene.sketch.count {
+        push(out, "all of them are drawn")
+    } else {
+        push_left_out(out, scene)
+    }
+}
+
+// How many races there are of which both steps are drawn.
+fn race_total(scene: &Scene<'_>) -> usize
+    ensures { result ≡ race_total (scene_in scene.now) }
+{
+    let done = scene.done;
+    scene
+        .near
+        .iter()
+        .filter(|race| holds_race(done, **race))
+        .count()
+}
+
+// Appends of how many races six are drawn.
+fn push_six(out: &mut Vec<u8>, races: usize) -> Result<(), OutOfMemory>
+    ensures { OnOk result (out.new.items ≡ out.old.items ++ six_text races) }
+{
+    push(out, "; of their ")?;
+    push_number(out, races as u64)?;
+    push(out, " races 6 are drawn")
+}
+
+// Appends the same where there are more.
+fn push_races_told(out: &mut Vec<u8>, races: usize) -> Result<(), OutOfMemory>
+    ensures { OnOk result (out.new.items ≡ out.old.items ++ races_text races) }
+{
+    if MOST < races {
+        push_six(out, races)
+    } else {
+        Ok(())
+    }
+}
+
 // Which steps are drawn, and what is left out.
 fn part_text(alloc: Global, scene: &Scene<'_>) -> Result<Vec<u8>, OutOfMemory>
     ensures { IfOk result (λ text. text.items ≡ part_text (scene_in scene.now)) }
 {
     let mut out = Vec::new(alloc);
-    if scene.span.from == 0 && scene.span.to == scene.sketch.count {
-        push(&mut out, "all of them are drawn")?;
-    } else {
-        push_left_out(&mut out, scene)?;
-    }
+    push_drawn_steps(&mut out, scene)?;
+    push_races_told(&mut out, race_total(scene))?;
     Ok(out)
 }
 
@@ -103,20 +144,28 @@ fn push_title(
     push_line(alloc, out, Sign::Title, 30, LINE, title)
 }
 
-// Appends which steps are drawn, and what is left out.
-fn push_part(alloc: Global, out: &mut Vec<Written>, scene: &Scene<'_>) -> Result<(), OutOfMemory>
-    ensures { OnOk result (out.new.items ≡ out.old.items ++ as_written (part_mark (scene_in scene.now))) }
-{
-    let part = part_text(alloc, scene)?;
-    push_line(alloc, out, Sign::Note, 54, LINE, part.as_slice())
-}
-
 // How many bytes have room on a line.
 fn line_room(scene: &Scene<'_>) -> usize
     requires { IsSmall (scene_in scene.now) }
     ensures { result ≡ line_room (scene_in scene.now) }
 {
     ((width(scene) - 40) / 8) as usize
+}
+
+// Appends which steps are drawn, and what is left out.
+fn push_part(alloc: Global, out: &mut Vec<Written>, scene: &Scene<'_>) -> Result<(), OutOfMemory>
+    requires { IsSmall (scene_in scene.now) }
+    ensures { OnOk result (out.new.items ≡ out.old.items ++ as_written (part_mark (scene_in scene.now))) }
+{
+    let part = part_text(alloc, scene)?;
+    push_line(
+        alloc,
+        out,
+        Sign::Note,
+        54,
+        line_room(scene),
+        part.as_slice(),
+    )
 }
 
 // Appends whose the lanes are.

@@ -11,8 +11,8 @@
 //! the steps of a program.
 //! Proved: the document is exactly that, and want of memory is the only error. By the laws of the arrows they are edges
 //! and lead wherever one step happens before another, and each is drawn by whether Rust's order has it too
-//! ([`arrows_tell_whose_they_are`]); the races are the listed ones both of whose steps are drawn; no text can become
-//! markup, by the law of `mr_svg`. [`marks_lie_inside`] is the law that each mark lies inside the picture, and
+//! ([`arrows_tell_whose_they_are`]); the lines of races are those of the first six listed ones both of whose steps are
+//! drawn, and where there are more a line above says so; no text can become markup, by the law of `mr_svg`. [`marks_lie_inside`] is the law that each mark lies inside the picture, and
 //! [`links_keep_clear`] that no arrow and no line of a race comes near the mark of another step; by
 //! [`legend_tells_what_is_drawn`] the legend has a row for each of its signs that is drawn, and no other; by
 //! [`started_threads_are_named`] each thread that a told step started stands above the lanes with the function with which

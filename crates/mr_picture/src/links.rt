@@ -1,12 +1,11 @@
 //! Arrows and races.
-ghost use Rattle.std.specs.Prelude.{◌≡◌, ◌<◌, ◌≤◌, ◌^◌, ◌++◌, All, IfOk, OnOk, flat_map, length, map};
+ghost use Rattle.std.specs.Prelude.{◌≡◌, ◌<◌, ◌≤◌, ◌^◌, ◌++◌, All, IfOk, OnOk, flat_map, length, map, take};
 ghost use Rattle.mr_event.specs.Order.{thread_at as thread_of};
-ghost use Rattle.mr_picture.specs.Span.{races_in};
 ghost use Rattle.mr_rust_order.specs.Tracked.{Tracks as RustTracks};
 ghost use Rattle.mr_picture.specs.Written.{as_written};
 ghost use Rattle.mr_picture.specs.Grid.{place_of};
 ghost use Rattle.mr_picture.specs.Links.{arrow_at, arrow_between, arrow_mark, arrow_reason, arrow_sign, arrow_title, beside, corner_of};
-ghost use Rattle.mr_picture.specs.Links.{foot_place, is_rusts, is_same_race, is_wake, race_between, race_mark, race_sign, race_title};
+ghost use Rattle.mr_picture.specs.Links.{drawn_races, foot_place, is_rusts, is_same_race, is_wake, race_between, race_mark, race_sign, race_title};
 ghost use Rattle.mr_picture.specs.Scene.{IsRace, IsSmall, IsStep, scene_in};
 
 use crate::grid::place_of;
@@ -18,6 +17,9 @@ use mr_event::{Footprint, Pair, thread_at};
 use mr_rust_order::Analysis as RustOrder;
 use mr_svg::{Corner, Point, Shape, Sign};
 use std::alloc::Global;
+
+// So many races have a line at most.
+pub(crate) const MOST: usize = 6;
 
 // So far from one number, on the side of another one.
 fn beside(far: u64, x: u64, other: u64) -> u64
@@ -245,16 +247,23 @@ fn push_each_race(
     Ok(())
 }
 
-/// Appends the lines of the races both of whose steps are drawn.
+// The first six of these races.
+fn first_races(races: &[Pair]) -> &[Pair]
+    ensures { result.now ≡ take 6 races.now }
+{
+    &races[..races.len().min(MOST)]
+}
+
+/// Appends the lines of the first six races both of whose steps are drawn.
 pub(crate) fn push_races(
     alloc: Global,
     out: &mut Vec<Written>,
     scene: &Scene<'_>,
 ) -> Result<(), OutOfMemory>
     requires { IsSmall (scene_in scene.now) }
-    ensures { OnOk result (out.new.items ≡ out.old.items ++ flat_map as_written
-        (map (race_mark (scene_in scene.now)) (races_in (scene_in scene.now).done (scene_in scene.now).near))) }
+    ensures { OnOk result (out.new.items ≡ out.old.items
+        ++ flat_map as_written (map (race_mark (scene_in scene.now)) (drawn_races (scene_in scene.now)))) }
 {
     let races = races_in(alloc, scene.done, scene.near)?;
-    push_each_race(alloc, out, scene, races.as_slice())
+    push_each_race(alloc, out, scene, first_races(races.as_slice()))
 }
