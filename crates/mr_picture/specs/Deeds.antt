@@ -1,5 +1,5 @@
 -- What a step of a program's run did, as it is told beside it: each part behind a line feed.
-use Rattle.std.specs.Prelude.{ℕ, Bool, nat_lt, if◌then◌else◌, List, [], ◌++◌, flat_map, codes, decimal, length}
+use Rattle.std.specs.Prelude.{ℕ, ◌-◌, Bool, nat_lt, if◌then◌else◌, List, [], ◌++◌, flat_map, codes, decimal, length}
 use Rattle.std.specs.Prelude.{slice_range, Option, None, Some, slice_get}
 use Rattle.std.specs.List.{range_with_len}
 use Rattle.mr_base.specs.declared.access.Access.{Access}
@@ -75,8 +75,14 @@ deed_of s here v at (Some a) = access_deed s here (held_for v at a) a
 abbrev pub deed_at : Seen → Option Stand → Option StepValues → List Access → ℕ → List ℕ
 deed_at s here v accesses at = deed_of s here v at (slice_get accesses at)
 
+-- the same, counted from the last one
+abbrev pub deed_back : Seen → Option Stand → Option StepValues → List Access → ℕ → List ℕ
+deed_back s here v accesses back = deed_at s here v accesses (length accesses - 1 - back)
+
+-- all, the last one first: the store of an assignment comes last, and the load behind a pointer after that of the
+-- pointer, and the end of a long line is cut off
 abbrev pub access_deeds : Seen → Option Stand → Option StepValues → List Access → List ℕ
-access_deeds s here v accesses = flat_map (deed_at s here v accesses) (range_with_len 0 (length accesses))
+access_deeds s here v accesses = flat_map (deed_back s here v accesses) (range_with_len 0 (length accesses))
 
 -- ---- all
 

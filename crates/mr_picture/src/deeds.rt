@@ -1,8 +1,8 @@
 //! What a step of a program's run did, as it is told beside it: each part behind a line feed.
-ghost use Rattle.std.specs.Prelude.{◌≡◌, ◌+◌, ◌++◌, OnOk, flat_map, option_copied, slice_get};
+ghost use Rattle.std.specs.Prelude.{◌≡◌, ◌+◌, ◌++◌, ◌-◌, ◌<◌, OnOk, flat_map, length, option_copied, slice_get};
 ghost use Rattle.mr_listing.specs.Held.{held_for};
 ghost use Rattle.mr_listing.specs.Seen.{seen};
-ghost use Rattle.mr_picture.specs.Deeds.{access_deed, access_deeds, deed_at, deeds, end_deed, event_deed, foot_deeds, in_text, numbered};
+ghost use Rattle.mr_picture.specs.Deeds.{access_deed, access_deeds, deed_back, deeds, end_deed, event_deed, foot_deeds, in_text, numbered};
 ghost use Rattle.mr_picture.specs.Deeds.{print_deed, printed_by, start_deed, wake_deed};
 
 use crate::OutOfMemory;
@@ -147,25 +147,27 @@ fn access_at(accesses: &[Access], at: usize) -> Option<Access>
     accesses.get(at).copied()
 }
 
-// Appends the access at a position, where there is one.
-fn push_access_at(
+// Appends the access at a position, counted from the last one.
+fn push_access_back(
     out: &mut Vec<u8>,
     shown: &Shown<'_>,
     here: Option<Stand>,
     values: Option<&StepValues>,
     accesses: &[Access],
-    at: usize,
+    back: usize,
 ) -> Result<(), OutOfMemory>
+    requires { back < length accesses.now }
     ensures { OnOk result (out.new.items
-        ≡ out.old.items ++ deed_at (seen shown.now) here (option_copied values.entry) accesses.now at) }
+        ≡ out.old.items ++ deed_back (seen shown.now) here (option_copied values.entry) accesses.now back) }
 {
+    let at = accesses.len() - 1 - back;
     match access_at(accesses, at) {
         Some(access) => push_access(out, shown, here, values, at, access),
         None => Ok(()),
     }
 }
 
-// Appends each access.
+// Appends each access, the last one first.
 fn push_accesses(
     out: &mut Vec<u8>,
     shown: &Shown<'_>,
@@ -176,8 +178,8 @@ fn push_accesses(
     ensures { OnOk result (out.new.items
         ≡ out.old.items ++ access_deeds (seen shown.now) here (option_copied values.entry) accesses.now) }
 {
-    for at in 0..accesses.len() {
-        push_access_at(out, shown, here, values, accesses, at)?;
+    for back in 0..accesses.len() {
+        push_access_back(out, shown, here, values, accesses, back)?;
     }
     Ok(())
 }
