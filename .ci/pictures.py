@@ -236,9 +236,9 @@ def accesses_in(titles):
 
 
 def accesses_of(steps):
-    """The same of the steps of a listing."""
+    """The same of the steps of a listing; a picture tells the last one first."""
     lines = {step.number: [line.strip().decode() for line in step.below] for step in steps}
-    return {number: [line for line in told if line.startswith(ACCESS)] for number, told in lines.items()}
+    return {number: [line for line in reversed(told) if line.startswith(ACCESS)] for number, told in lines.items()}
 
 
 def told_and_drawn(picture):
