@@ -79,7 +79,7 @@ def kept(judge, companion):
         path = f"{PICTURES}/{name}.svg"
         wrote, status = drawn(program, schedule, companion)
         judge(f"docs/pictures/{name}.svg", os.path.isfile(path) and read(path) == wrote and status in (0, 1), "not what is drawn; --write makes it")
-        for reader in (["xmllint", "--noout"], ["rsvg-convert", "-o", "/dev/null"]):
+        for reader in (["xmllint", "--noout"], ["rsvg-convert"]):
             if shutil.which(reader[0]):
                 ended = subprocess.run([*reader, path], stdin=subprocess.DEVNULL, capture_output=True, timeout=120)
                 judge(f"{reader[0]} {name}.svg", ended.returncode == 0 and not ended.stderr, f"{ended.stderr[:200]}")
