@@ -610,7 +610,7 @@ def long_runs(judge, at):
         begun = time.monotonic()
         wrote, ended = ran([words[0], "staying.mr", "staying.sched", *words[1:]], at)
         seconds = time.monotonic() - begun
-        is_well = (wrote, ended) == (wanted, 0) if wanted is not None else ended == 0 and wrote.count(b'<g class="step">') == DRAWN + 7
+        is_well = (wrote, ended) == (wanted, 0) if wanted is not None else ended == 0 and wrote.count(b'<g class="step">') == DRAWN + 1
         judge(f"companion: a run of 2^20 entries: {what}", is_well, f"{short(wrote)} and {ended}")
         judge(f"companion: a run of 2^20 entries: {what}: its time", seconds < PATIENCE, f"{seconds:.1f} seconds")
 
